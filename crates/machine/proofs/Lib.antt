@@ -1,0 +1,9 @@
+pub mod Signed
+pub mod Remainder
+pub mod Lists
+pub mod NextToken
+pub mod ByLine
+pub mod Keeps
+pub mod Marks
+pub mod Ready
+pub mod Steps

@@ -1,0 +1,59 @@
+-- `Whole::remainder` meets its contract: a remainder below zero is raised by m.
+use mathlib.Core.Path.{_≡_, ap, _∙_}
+use lib.IntN.{natAbs, _+ℤ_}
+use mir.Syntax.{w64}
+use mir.Val.{SFits}
+use Rattle.machine.specs.Tokens.{remainder}
+use Rattle.machine.proofs.Remainder.{Is, mended-negative, mended-other, quotient-fits, rest-fits}
+use native.Mathlib.Omega.{arith}
+use borrow.Author.Needs.{needs}
+use Rattle.machine.proofs.tokens.Whole.remainder.Statement.{statement}
+use Rattle.machine.proofs.tokens.Whole.remainder.Tie as tie
+
+-- the remainder below zero, raised, and the one that is not
+negative : (c : tie.Then1) → Is (c .before .before .signed-remainder .result .0 +ℤ c .before .before .before .of-number .result .0) (remainder (c .before .before .before .before .args .self .0) (c .before .before .before .before .args .m))
+negative c =
+    mended-negative _ _ (omega arith) (omega arith) (c .before .before .before .of-number .ensures) (c .before .before .signed-remainder .ensures) (c .before .is-negative .ensures) (c .if1 .taken)
+
+other : (c : tie.Else1) → Is (c .before .before .signed-remainder .result .0) (remainder (c .before .before .before .before .args .self .0) (c .before .before .before .before .args .m))
+other c =
+    mended-other _ _ (omega arith) (omega arith) (c .before .before .before .of-number .ensures) (c .before .before .signed-remainder .ensures) (c .before .is-negative .ensures) (c .if1 .left)
+
+of-number-requires : tie.Need-of-number-requires
+of-number-requires c κs = search needs
+
+signed-remainder-requires : tie.Need-signed-remainder-requires
+signed-remainder-requires c κs =
+    let f : SFits w64 (c .before .args .self .0) = search needs in
+    rw (c .of-number .ensures) (omega arith, quotient-fits _ _ f, rest-fits _ _ f)
+
+is-negative-requires : tie.Need-is-negative-requires
+is-negative-requires c κs = search needs
+
+plus-requires : tie.Need-plus-requires
+plus-requires c κs = negative c .sfits
+
+byte-requires : tie.Need-byte-requires
+byte-requires c κs = rw (c .plus .ensures) (negative (c .before) .nonneg, negative (c .before) .fits)
+
+returns : tie.Need-returns
+returns c = c .byte .ensures ∙ ap natAbs (c .before .plus .ensures) ∙ negative (c .before .before) .value
+
+byte-requires-2 : tie.Need-byte-requires-2
+byte-requires-2 c κs = (other c .nonneg, other c .fits)
+
+returns-2 : tie.Need-returns-2
+returns-2 c = c .byte2 .ensures ∙ other (c .before) .value
+
+pub remainder-spec : {M : Type 1} → statement M
+remainder-spec =
+    tie.close
+    (tie.spec
+    of-number-requires
+    signed-remainder-requires
+    is-negative-requires
+    plus-requires
+    byte-requires
+    returns
+    byte-requires-2
+    returns-2)

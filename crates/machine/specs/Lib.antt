@@ -1,0 +1,3 @@
+pub mod Tokens
+pub mod Step
+pub mod Ready

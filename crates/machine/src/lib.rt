@@ -1,0 +1,105 @@
+// The two machines of document 01: the unbounded (UB-Bakery) and the bounded (B-Bakery), one step at a time.
+mod lines;
+mod tokens;
+
+ghost use mathlib.Core.Path.{_≡_};
+ghost use Prim.Native.Nat.{_≤_};
+ghost use Rattle.table.specs.Numbers.{slots};
+ghost use Rattle.table.specs.Rules.{rowOf};
+ghost use Rattle.machine.specs.Ready.{Ready};
+ghost use Rattle.machine.specs.Step.{seenOf, refusedWith, takenOf, stepOf};
+use lines::advance;
+use lines::place_of;
+use table::Row;
+use table::Table;
+use table::refusal;
+
+// What a step sees outside its own row: of the process at its index the choosing flag and the token, and X.
+pub struct Seen {
+    pub choosing: u8,
+    pub token: i32,
+    pub x: i32,
+}
+
+// What comes of a step: its own row, X, the mark and the stop number.
+pub struct Advanced {
+    pub row: Row,
+    pub x: i32,
+    pub mark: u8,
+    pub stop: u8,
+}
+
+// The answer of `step`.
+pub struct Stepped {
+    pub table: Table,
+    pub mark: u8,
+    pub stop: u8,
+}
+
+// Row i.
+fn row_of(t: Table, i: u8) -> Row
+    requires { ⌜ i ≤ slots ⌝ }
+    ensures { λ r. ⌜ r ≡ rowOf t i ⌝ }
+{
+    let k = place_of(i);
+    t.rows[k]
+}
+
+// What the step of row r sees.
+fn seen_by(t: Table, r: Row) -> Seen
+    requires { ⌜ r .index ≤ slots ⌝ }
+    ensures { λ s. ⌜ s ≡ seenOf t r ⌝ }
+{
+    let other = row_of(t, r.index);
+    Seen {
+        choosing: other.choosing,
+        token: other.token,
+        x: t.x,
+    }
+}
+
+// A refusal gives the table back.
+fn refused(t: Table, stop: u8) -> Stepped
+    ensures { λ s. ⌜ s ≡ refusedWith t stop ⌝ }
+{
+    Stepped {
+        table: t,
+        mark: 0,
+        stop,
+    }
+}
+
+// The step of process i: its row is taken out, advanced, and put back.
+fn taken(t: Table, i: u8) -> Stepped
+    requires { ⌜ (i ≤ slots) × Ready (t .n) (rowOf t i) ⌝ }
+    ensures { λ s. ⌜ s ≡ takenOf t i ⌝ }
+{
+    let r = row_of(t, i);
+    let a = advance(t.algorithm, t.n, i, r, seen_by(t, r));
+    let k = place_of(i);
+    let row = a.row;
+    let mut after = t;
+    after.rows[k] = row;
+    after.x = a.x;
+    Stepped {
+        table: after,
+        mark: a.mark,
+        stop: a.stop,
+    }
+}
+
+// One step of a process: refusals 3, 4, 5.
+pub fn step(t: Table, process: u8) -> Stepped
+    ensures { λ s. ⌜ s ≡ stepOf t process ⌝ }
+{
+    if !table::well_formed(t) {
+        return refused(t, refusal::NOT_WELL_FORMED);
+    }
+    if process < 1 {
+        return refused(t, refusal::PROCESS_NUMBER);
+    }
+    if t.n < process {
+        return refused(t, refusal::PROCESS_NUMBER);
+    }
+    taken(t, process)
+}

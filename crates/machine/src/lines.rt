@@ -1,0 +1,294 @@
+// One step of a process, line by line: its own row and what it sees of the others go in, and what comes of them goes out.
+ghost use mathlib.Core.Path.{_≡_};
+ghost use Prim.Native.Nat.{ℕ, _-_, _≤_};
+ghost use Rattle.table.specs.Numbers.{slots, isNone, none};
+ghost use Rattle.machine.specs.Ready.{Count, Ready};
+ghost use Rattle.machine.specs.Tokens.{goesBefore};
+ghost use Rattle.machine.specs.Step.{withCell, withCells, withPivot, withToken, withLine};
+ghost use Rattle.machine.specs.Step.{moves, refuses, nextOther, goesOn, passes};
+ghost use Rattle.machine.specs.Step.{line1, line2, line3, line4, line5, line6, line7, line8};
+ghost use Rattle.machine.specs.Step.{line9, line10, advanceOf};
+use crate::Advanced;
+use crate::Seen;
+use crate::tokens::BToken;
+use crate::tokens::UbToken;
+use table::NONE;
+use table::Row;
+use table::SLOTS;
+use table::UNBOUNDED;
+use table::Value;
+use table::refusal;
+
+// The step changed the row.
+fn moved(r: Row, s: Seen) -> Advanced
+    ensures { λ a. ⌜ a ≡ moves (s .x) r ⌝ }
+{
+    Advanced {
+        row: r,
+        x: s.x,
+        mark: 1,
+        stop: refusal::NO_REFUSAL,
+    }
+}
+
+// The step changed nothing: it waits, or is refused.
+fn kept(r: Row, s: Seen, stop: u8) -> Advanced
+    ensures { λ a. ⌜ a ≡ refuses stop s r ⌝ }
+{
+    Advanced {
+        row: r,
+        x: s.x,
+        mark: 0,
+        stop,
+    }
+}
+
+// The place of a process's row or read cell: process numbers start at 1.
+pub(crate) fn place_of(process: u8) -> usize
+    ensures { λ k. ⌜ k ≡ process - 1 ⌝ }
+{
+    if process < 1 {
+        return 0;
+    }
+    (process - 1) as usize
+}
+
+fn next_other(i: u8, j: u8) -> u8
+    requires { ⌜ j ≤ slots ⌝ }
+    ensures { λ k. ⌜ k ≡ nextOther i j ⌝ }
+{
+    if j + 1 == i {
+        return j + 2;
+    }
+    j + 1
+}
+
+// To line 6 with the next larger number other than i, or to line 8 if there is none.
+fn goes_on(n: u8, i: u8, j: u8, r: Row) -> Row
+    requires { ⌜ j ≤ slots ⌝ }
+    ensures { λ w. ⌜ w ≡ goesOn n i j r ⌝ }
+{
+    let next = next_other(i, j);
+    let mut w = r;
+    if next <= n {
+        w.index = next;
+        w.line = 6;
+        return w;
+    }
+    w.index = 0;
+    w.line = 8;
+    w
+}
+
+fn line_1(r: Row, s: Seen) -> Advanced
+    ensures { λ a. ⌜ a ≡ line1 s r ⌝ }
+{
+    let mut w = r;
+    w.choosing = 1;
+    w.index = 1;
+    w.line = 2;
+    moved(w, s)
+}
+
+fn with_cell(r: Row, j: u8, s: Seen) -> Row
+    requires { ⌜ j ≤ slots ⌝ }
+    ensures { λ w. ⌜ w ≡ withCell j (s .token) r ⌝ }
+{
+    let k = place_of(j);
+    let token = s.token;
+    let mut w = r;
+    w.cells[k] = token;
+    w
+}
+
+fn line_2(n: u8, r: Row, s: Seen) -> Advanced
+    requires { ⌜ r .index ≤ slots ⌝ }
+    ensures { λ a. ⌜ a ≡ line2 n s r ⌝ }
+{
+    let j = r.index;
+    let mut w = with_cell(r, j, s);
+    if j == n {
+        w.index = 0;
+        w.line = 3;
+        return moved(w, s);
+    }
+    w.index = j + 1;
+    moved(w, s)
+}
+
+fn line_3(r: Row, s: Seen) -> Advanced
+    ensures { λ a. ⌜ a ≡ line3 s r ⌝ }
+{
+    let mut w = r;
+    w.pivot = s.x;
+    w.line = 4;
+    moved(w, s)
+}
+
+// The token of either machine as a row keeps it; what was read for it is cleared.
+fn with_token(r: Row, token: Value) -> Row
+    ensures { λ w. ⌜ w ≡ withLine 5 (withCells none (withPivot none (withToken (token .0) r))) ⌝ }
+{
+    let mut w = r;
+    w.token = token.0;
+    w.pivot = NONE;
+    w.cells = [NONE; SLOTS];
+    w.line = 5;
+    w
+}
+
+fn line_4(algorithm: u8, n: u8, r: Row, s: Seen) -> Advanced
+    requires { ⌜ Count n ⌝ }
+    ensures { λ a. ⌜ a ≡ line4 algorithm n s r ⌝ }
+{
+    let cells = r.cells;
+    if algorithm == UNBOUNDED {
+        let most = UbToken::largest(UbToken::pivot(r), cells);
+        let next = most.next();
+        if next.is_above_limit() {
+            return kept(r, s, refusal::ABOVE_TOKEN_LIMIT);
+        }
+        return moved(with_token(r, next.token().value()), s);
+    }
+    let next = BToken::next(n, BToken::pivot(r), cells);
+    moved(with_token(r, next.value()), s)
+}
+
+fn line_5(n: u8, i: u8, r: Row, s: Seen) -> Advanced
+    ensures { λ a. ⌜ a ≡ line5 n i s r ⌝ }
+{
+    let mut w = r;
+    w.choosing = 0;
+    moved(goes_on(n, i, 0, w), s)
+}
+
+// Lines 2 to 5.
+fn doorway(algorithm: u8, n: u8, i: u8, r: Row, s: Seen) -> Advanced
+    requires { ⌜ Ready n r × (2 ≤ r .line) × (r .line ≤ 5) ⌝ }
+    ensures { λ a. ⌜ a ≡ advanceOf algorithm n i s r ⌝ }
+{
+    let line = r.line;
+    match line {
+        2 => line_2(n, r, s),
+        3 => line_3(r, s),
+        4 => line_4(algorithm, n, r, s),
+        _ => line_5(n, i, r, s),
+    }
+}
+
+fn line_6(r: Row, s: Seen) -> Advanced
+    ensures { λ a. ⌜ a ≡ line6 s r ⌝ }
+{
+    if s.choosing == 0 {
+        let mut w = r;
+        w.line = 7;
+        return moved(w, s);
+    }
+    kept(r, s, refusal::NO_REFUSAL)
+}
+
+fn goes_before(algorithm: u8, n: u8, i: u8, r: Row, s: Seen) -> bool
+    requires { ⌜ Count n ⌝ }
+    ensures { λ b. ⌜ b ≡ goesBefore algorithm n i (r .token) (r .index) (s .token) ⌝ }
+{
+    let j = r.index;
+    if algorithm == UNBOUNDED {
+        return UbToken::held(r).goes_before(i, UbToken::seen(s), j);
+    }
+    BToken::held(r).goes_before(n, i, BToken::seen(s), j)
+}
+
+fn sees_none(s: Seen) -> bool
+    ensures { λ b. ⌜ b ≡ isNone (s .token) ⌝ }
+{
+    Value(s.token).is_none()
+}
+
+// Whether token j is -1 or i goes before j.
+fn passes(algorithm: u8, n: u8, i: u8, r: Row, s: Seen) -> bool
+    requires { ⌜ Count n ⌝ }
+    ensures { λ b. ⌜ b ≡ passes algorithm n i s r ⌝ }
+{
+    if sees_none(s) {
+        return true;
+    }
+    goes_before(algorithm, n, i, r, s)
+}
+
+fn line_7(algorithm: u8, n: u8, i: u8, r: Row, s: Seen) -> Advanced
+    requires { ⌜ Ready n r ⌝ }
+    ensures { λ a. ⌜ a ≡ line7 algorithm n i s r ⌝ }
+{
+    let j = r.index;
+    if passes(algorithm, n, i, r, s) {
+        return moved(goes_on(n, i, j, r), s);
+    }
+    kept(r, s, refusal::NO_REFUSAL)
+}
+
+// Lines 6 and 7.
+fn waiting(algorithm: u8, n: u8, i: u8, r: Row, s: Seen) -> Advanced
+    requires { ⌜ Ready n r × (6 ≤ r .line) × (r .line ≤ 7) ⌝ }
+    ensures { λ a. ⌜ a ≡ advanceOf algorithm n i s r ⌝ }
+{
+    let line = r.line;
+    match line {
+        6 => line_6(r, s),
+        _ => line_7(algorithm, n, i, r, s),
+    }
+}
+
+fn line_8(r: Row, s: Seen) -> Advanced
+    ensures { λ a. ⌜ a ≡ line8 r ⌝ }
+{
+    let mut w = r;
+    w.line = 9;
+    let mut written = s;
+    written.x = r.token;
+    moved(w, written)
+}
+
+fn line_9(r: Row, s: Seen) -> Advanced
+    ensures { λ a. ⌜ a ≡ line9 s r ⌝ }
+{
+    let mut w = r;
+    w.line = 10;
+    moved(w, s)
+}
+
+fn line_10(r: Row, s: Seen) -> Advanced
+    ensures { λ a. ⌜ a ≡ line10 s r ⌝ }
+{
+    let mut w = r;
+    w.token = NONE;
+    w.line = 1;
+    moved(w, s)
+}
+
+// Lines 8 to 10.
+fn critical(r: Row, s: Seen) -> Advanced
+    requires { ⌜ (8 ≤ r .line) × (r .line ≤ 10) ⌝ }
+    ensures { λ a. ⌜ ((algorithm n i : ℕ) → a ≡ advanceOf algorithm n i s r) ⌝ }
+{
+    let line = r.line;
+    match line {
+        8 => line_8(r, s),
+        9 => line_9(r, s),
+        _ => line_10(r, s),
+    }
+}
+
+// One step of process i, whose row is r and who sees s.
+pub(crate) fn advance(algorithm: u8, n: u8, i: u8, r: Row, s: Seen) -> Advanced
+    requires { ⌜ Ready n r ⌝ }
+    ensures { λ a. ⌜ a ≡ advanceOf algorithm n i s r ⌝ }
+{
+    let line = r.line;
+    match line {
+        1 => line_1(r, s),
+        2..=5 => doorway(algorithm, n, i, r, s),
+        6..=7 => waiting(algorithm, n, i, r, s),
+        8..=10 => critical(r, s),
+        _ => kept(r, s, refusal::NO_REFUSAL),
+    }
+}

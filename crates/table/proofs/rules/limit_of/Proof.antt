@@ -1,0 +1,34 @@
+-- `limit_of` meets its contract.
+use mathlib.Core.Path.{_≡_, ap, _∙_}
+use borrow.Author.Tests.{eq-eqb, ne-eqb}
+use lib.IntN.{pos}
+use Rattle.table.specs.Numbers.{limitOf}
+use native.Mathlib.Omega.{arith}
+use borrow.Author.Needs.{needs}
+use Rattle.table.proofs.rules.limit_of.Statement.{statement}
+use Rattle.table.proofs.rules.limit_of.Tie as tie
+
+returns : tie.Need-returns
+unfolding limitOf
+returns c = rw (eq-eqb _ _ (c .if1 .taken))
+
+returns-2 : tie.Need-returns-2
+unfolding limitOf
+returns-2 c = rw (ne-eqb _ _ (c .before .if1 .left)) (ap pos (omega arith))
+
+cast-others : tie.Need-cast-others
+cast-others c = search needs
+
+mul-whole : tie.Need-mul-whole
+mul-whole c = search needs
+
+whole-requires : tie.Need-whole-requires
+whole-requires c κs = search needs
+
+returns-3 : tie.Need-returns-3
+unfolding limitOf
+returns-3 c = rw (ne-eqb _ _ (c .before .before .if1 .left)) (c .whole .ensures ∙ ap pos (omega arith))
+
+pub limit-of-spec : {M : Type 1} → statement M
+limit-of-spec =
+    tie.close (tie.spec returns returns-2 cast-others mul-whole whole-requires returns-3)

@@ -1,0 +1,33 @@
+-- Document 01, "The table": a fresh table; and the answer of `fresh`.
+use Prim.Native.Nat.{ℕ}
+use mathlib.Core.Bool.{cond}
+use lib.Dec.{leb}
+use lib.IntN.{pos}
+use lib.ListN.{replicate}
+use Rattle.table.specs.Tests.{within}
+use Rattle.table.specs.Numbers.{slots, none, unbounded, bounded}
+use Rattle.table.specs.Refusals.{noRefusal, badAlgorithm, badProcessCount}
+use Rattle.table.specs.declared.Row.{Row}
+use Rattle.table.specs.declared.Table.{Table}
+use Rattle.table.specs.declared.Started.{Started}
+
+-- "every row at line 1, index 0, choosing 0, token -1, pivot -1, cells -1"
+abbrev pub freshRow : Row
+freshRow = record { line = 1; index = 0; choosing = 0; token = none; pivot = none; cells = replicate slots none }
+
+-- "A fresh table has X = 0" and every row fresh
+abbrev pub freshTable : ℕ → ℕ → Table
+freshTable algorithm n = record { algorithm = algorithm; n = n; x = pos 0; rows = replicate slots freshRow }
+
+-- "refused, fresh and read show, in the table's place, the fresh unbounded table for n = 1"
+abbrev pub refusedWith : ℕ → Started
+refusedWith stop = record { table = freshTable unbounded 1; stop = stop }
+
+-- "Fresh: 1, 2."
+unfoldable pub freshOf : ℕ → ℕ → Started
+freshOf algorithm n =
+    cond (leb algorithm bounded)
+    (cond (within 1 slots n)
+    (record { table = freshTable algorithm n; stop = noRefusal })
+    (refusedWith badProcessCount))
+    (refusedWith badAlgorithm)
