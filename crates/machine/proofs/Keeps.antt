@@ -15,10 +15,12 @@ use Rattle.table.specs.Numbers.{slots, none, isNone, limitOf, topOf}
 use Rattle.table.specs.Rules.{cellOf, xOk, lineOk, indexOk, choosingOk, tokenOk, pivotOk, mayHold, cellOk, cellRule}
 use Rattle.table.specs.Refusals.{noRefusal, aboveTokenLimit}
 use Rattle.table.specs.declared.Row.{Row}
-use Rattle.table.proofs.Every.{by-test, and-both, and-halves}
-use Rattle.table.proofs.WellFormed.{RowRules, within-low, within-high, within-yes, is-none}
+use Rattle.table.proofs.Tests.{by-test, and-both, and-halves, within-low, within-high, within-yes}
+use Rattle.table.proofs.WellFormed.{RowRules, is-none}
 use Rattle.machine.specs.Tokens.{nextToken}
-use Rattle.machine.specs.Step.{withLine, withIndex, withChoosing, withCell, moves, refuses, nextOther, goesOn, isAboveLimit, passes, advanceOf}
+use Rattle.machine.specs.Setters.{withLine, withIndex, withChoosing, withCell}
+use Rattle.machine.specs.Step.{moves, refuses}
+use Rattle.machine.specs.Step.{nextOther, goesOn, isAboveLimit, passes, advanceOf}
 use Rattle.machine.specs.Step.{line1, line2, line3, line4, line5, line6, line7, line8, line9, line10}
 use Rattle.machine.specs.declared.Seen.{Seen}
 use Rattle.machine.specs.declared.Advanced.{Advanced}
@@ -77,7 +79,7 @@ module _ {algorithm n i : ℕ} {s : Seen} {r : Row} (some : 1 ≤ n) (most : n �
   moved l k = record { rules = k; cells = l; x = sees .x }
 
   line1-keeps : r .line ≡ 1 → Kept algorithm n i (line1 s r)
-  unfolding line1 indexOk choosingOk tokenOk pivotOk cellRule mayHold
+  unfolding indexOk choosingOk tokenOk pivotOk cellRule mayHold
   line1-keeps e =
       let k = at-line e in
       moved cells
@@ -162,7 +164,7 @@ module _ {algorithm n i : ℕ} {s : Seen} {r : Row} (some : 1 ≤ n) (most : n �
         })))
 
   line3-keeps : r .line ≡ 3 → Kept algorithm n i (line3 s r)
-  unfolding line3 indexOk choosingOk tokenOk pivotOk cellRule mayHold
+  unfolding indexOk choosingOk tokenOk pivotOk cellRule mayHold
   line3-keeps e =
       let k = at-line e in
       moved cells
@@ -230,7 +232,7 @@ module _ {algorithm n i : ℕ} {s : Seen} {r : Row} (some : 1 ≤ n) (most : n �
       (λ _. still noRefusal)
 
   line8-keeps : r .line ≡ 8 → Kept algorithm n i (line8 r)
-  unfolding line8 indexOk choosingOk tokenOk pivotOk cellRule mayHold
+  unfolding indexOk choosingOk tokenOk pivotOk cellRule mayHold
   line8-keeps e =
       let k = at-line e in
       record {
@@ -247,14 +249,14 @@ module _ {algorithm n i : ℕ} {s : Seen} {r : Row} (some : 1 ≤ n) (most : n �
       }
 
   line9-keeps : r .line ≡ 9 → Kept algorithm n i (line9 s r)
-  unfolding line9 indexOk choosingOk tokenOk pivotOk cellRule mayHold
+  unfolding indexOk choosingOk tokenOk pivotOk cellRule mayHold
   line9-keeps e =
       let k = at-line e in
       moved cells
       (record { line = line-ok 10 refl; index = k .index; choosing = k .choosing; token = k .token; pivot = k .pivot; cells = k .cells })
 
   line10-keeps : r .line ≡ 10 → Kept algorithm n i (line10 s r)
-  unfolding line10 indexOk choosingOk tokenOk pivotOk cellRule mayHold
+  unfolding indexOk choosingOk tokenOk pivotOk cellRule mayHold
   line10-keeps e =
       let k = at-line e in
       moved cells

@@ -7,10 +7,11 @@ use lib.Dec.{leb, eqb}
 use lib.IntN.{ℤ}
 use Rattle.table.specs.Refusals.{noRefusal, aboveTokenLimit}
 use Rattle.table.specs.declared.Row.{Row}
-use Rattle.table.proofs.Every.{by-test}
+use Rattle.table.proofs.Tests.{by-test}
 use Rattle.machine.specs.Tokens.{nextToken}
-use Rattle.machine.specs.Step.{moves, refuses, withChoosing, nextOther, goesOn, isAboveLimit, passes, advanceOf}
-use Rattle.machine.specs.Step.{line1, line2, line3, line4, line5, line6, line7, line8, line9, line10}
+use Rattle.machine.specs.Setters.{withChoosing}
+use Rattle.machine.specs.Step.{moves, refuses, nextOther, goesOn, isAboveLimit, passes, advanceOf}
+use Rattle.machine.specs.Step.{line2, line4, line5, line6, line7}
 use Rattle.machine.specs.declared.Seen.{Seen}
 use Rattle.machine.specs.declared.Advanced.{Advanced}
 use Rattle.machine.proofs.ByLine.{by-line}
@@ -47,7 +48,7 @@ module _ (s : Seen) (r : Row) where
       (λ _. moved (λ q _. g (sym q)))
 
   pub advance-marked : (algorithm n i : ℕ) → Marked s r (advanceOf algorithm n i s r)
-  unfolding line1 line2 line3 line4 line5 line6 line7 line8 line9 line10
+  unfolding line2 line4 line5 line6 line7
   advance-marked algorithm n i =
       by-line algorithm n i s r (Marked s r)
       (record {

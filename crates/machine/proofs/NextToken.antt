@@ -10,8 +10,7 @@ use lib.IntN.{ℤ, pos, negsuc, _+ℤ_}
 use lib.Signed.{leZ, ltZ}
 use Rattle.table.specs.Tests.{within, withinℤ}
 use Rattle.table.specs.Numbers.{unbounded, tokenLimit, limitOf, topOf, modulusOf}
-use Rattle.table.proofs.Every.{by-test, and-both}
-use Rattle.table.proofs.WellFormed.{within-yes}
+use Rattle.table.proofs.Tests.{by-test, and-both, within-yes}
 use Rattle.machine.specs.Step.{isAboveLimit}
 use Rattle.machine.specs.Tokens.{remainder, larger, largest, nextUb, nextB, nextToken}
 use Rattle.machine.proofs.Remainder.{remainder-below}

@@ -13,4 +13,4 @@ pub ready : (t : Table) (i : ℕ) → wellFormed t ≡ true → 1 ≤ i → i �
 ready t i w low high =
     let rules = table-rules t w in
     let index = index-range (t .n) i _ _ (rules .rows i low (omega arith) .index) in
-    (omega arith, record { some = rules .some; most = rules .most; index = omega arith })
+    (omega arith, record { count = record { some = rules .some; most = rules .most }; index = omega arith })

@@ -1,5 +1,5 @@
 -- The processor's remainder, which has the sign of the dividend, mended to lie in 0 to m - 1, is document 01's remainder.
-use Prim.Native.Nat.{ℕ, suc, zero, _+_, _-_, _%_, _/_, _<_, _≤_, zero-le}
+use Prim.Native.Nat.{ℕ, suc, zero, _-_, _%_, _/_, _<_, _≤_, zero-le}
 use mathlib.Core.Path.{_≡_, refl, sym, ap, _∙_, subst}
 use mathlib.Core.Bool.{Bool, true, false, cond}
 use native.Mathlib.Omega.{arith}
@@ -42,7 +42,15 @@ pub record Is (z : ℤ) (k : ℕ) : Type 0 where
 
 is : (z : ℤ) (k : ℕ) → k < 128 → T (nonNeg z) × (natAbs z ≡ k) → Is z k
 is (pos n) k h p =
-    record { nonneg = tt; value = p .1; sfits = record { sfits = omega (arith, p .1) }; fits = record { fits = omega (arith, p .1) } }
+    record {
+      nonneg = tt;
+      value = p .1;
+      sfits = record { sfits = omega (arith, p .1) };
+      fits = record {
+        fits =
+            omega (arith, p .1);
+      };
+    }
 is (negsuc n) k h p = absurd (p .0)
 
 -- -r raised by m where r is not 0, and -0 kept

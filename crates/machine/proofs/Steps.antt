@@ -14,8 +14,8 @@ use Rattle.table.specs.Rules.{noRow, rowOf, wellFormed}
 use Rattle.table.specs.Sized.{Sized}
 use Rattle.table.specs.declared.Row.{Row}
 use Rattle.table.specs.declared.Table.{Table}
-use Rattle.table.proofs.Every.{by-test}
-use Rattle.table.proofs.WellFormed.{TableRules, RowRules, table-rules, well-formed, within-low, within-high, token-range}
+use Rattle.table.proofs.Tests.{by-test, within-low, within-high}
+use Rattle.table.proofs.WellFormed.{TableRules, RowRules, table-rules, well-formed, token-range}
 use Rattle.machine.specs.Step.{seenOf, putBack, refusedWith, advanceOf, takenOf, stepOf}
 use Rattle.machine.specs.declared.Advanced.{Advanced}
 use Rattle.machine.specs.declared.Stepped.{Stepped}
@@ -83,7 +83,8 @@ module _ (t : Table) (i : ℕ) (w : wellFormed t ≡ true) (z : Sized t) (low : 
         some = rules .some;
         most = rules .most;
         x = kept .x;
-        rows = λ j l h. each-row t i (advanced t i) low (RowRules (topOf (t .algorithm) (t .n)) (t .n)) (omega arith) (kept .rules) j l (rules .rows j l h);
+        rows = λ j l h. each-row t i (advanced t i) low (RowRules (topOf (t .algorithm) (t .n)) (t .n)) (omega arith) (kept .rules) j l
+            (rules .rows j l h);
       })
 
   taken-sized : Sized (takenOf t i .table)

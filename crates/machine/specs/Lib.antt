@@ -1,3 +1,4 @@
 pub mod Tokens
+pub mod Setters
 pub mod Step
 pub mod Ready

@@ -8,8 +8,7 @@ pub record Count (n : ℕ) : Type 0 where
   pub some : 1 ≤ n
   pub most : n ≤ slots
 
--- a row whose index names a slot, or none by 0
+-- and a row whose index names a slot, or none by 0
 pub record Ready (n : ℕ) (r : Row) : Type 0 where
-  pub some : 1 ≤ n
-  pub most : n ≤ slots
+  pub count : Count n
   pub index : r .index ≤ slots

@@ -4,48 +4,18 @@ use mathlib.Core.Bool.{Bool, cond, _&&_, _||_}
 use lib.Dec.{leb, eqb}
 use lib.IntN.{ℤ, pos}
 use lib.Signed.{ltZ}
-use lib.ListN.{set, replicate}
+use lib.ListN.{set}
 use Rattle.table.specs.Tests.{within}
-use Rattle.table.specs.Numbers.{slots, none, isNone, unbounded, tokenLimit}
+use Rattle.table.specs.Numbers.{none, isNone, unbounded, tokenLimit}
 use Rattle.table.specs.Refusals.{noRefusal, notWellFormed, badProcessNumber, aboveTokenLimit}
 use Rattle.table.specs.Rules.{rowOf, wellFormed}
 use Rattle.table.specs.declared.Row.{Row}
 use Rattle.table.specs.declared.Table.{Table}
 use Rattle.machine.specs.Tokens.{nextToken, goesBefore}
+use Rattle.machine.specs.Setters.{withLine, withIndex, withChoosing, withToken, withPivot, withCell, withCells, allNone}
 use Rattle.machine.specs.declared.Seen.{Seen}
 use Rattle.machine.specs.declared.Advanced.{Advanced}
 use Rattle.machine.specs.declared.Stepped.{Stepped}
-
--- The row with one field set anew.
-
-abbrev pub withLine : ℕ → Row → Row
-withLine v r =
-    record { line = v; index = r .index; choosing = r .choosing; token = r .token; pivot = r .pivot; cells = r .cells }
-
-abbrev pub withIndex : ℕ → Row → Row
-withIndex v r =
-    record { line = r .line; index = v; choosing = r .choosing; token = r .token; pivot = r .pivot; cells = r .cells }
-
-abbrev pub withChoosing : ℕ → Row → Row
-withChoosing v r =
-    record { line = r .line; index = r .index; choosing = v; token = r .token; pivot = r .pivot; cells = r .cells }
-
-abbrev pub withToken : ℤ → Row → Row
-withToken v r =
-    record { line = r .line; index = r .index; choosing = r .choosing; token = v; pivot = r .pivot; cells = r .cells }
-
-abbrev pub withPivot : ℤ → Row → Row
-withPivot v r =
-    record { line = r .line; index = r .index; choosing = r .choosing; token = r .token; pivot = v; cells = r .cells }
-
--- read cell j, and all of them
-abbrev pub withCell : ℕ → ℤ → Row → Row
-withCell j v r =
-    record { line = r .line; index = r .index; choosing = r .choosing; token = r .token; pivot = r .pivot; cells = set (r .cells) (j - 1) v }
-
-abbrev pub withCells : ℤ → Row → Row
-withCells v r =
-    record { line = r .line; index = r .index; choosing = r .choosing; token = r .token; pivot = r .pivot; cells = replicate slots v }
 
 -- What a step answers: "a mark that is 1 if the table changed and 0 if not, and a stop number, 0 if none".
 
@@ -70,7 +40,7 @@ goesOn n i j r =
     cond (leb (nextOther i j) n) (withLine 6 (withIndex (nextOther i j) r)) (withLine 8 (withIndex 0 r))
 
 -- 1: "choosing becomes 1, index 1, line 2."
-unfoldable pub line1 : Seen → Row → Advanced
+abbrev pub line1 : Seen → Row → Advanced
 line1 s r = moves (s .x) (withLine 2 (withIndex 1 (withChoosing 1 r)))
 
 -- 2, index j: "read cell j takes token j. Then index j + 1, or, if j = n, index 0 and line 3."
@@ -80,7 +50,7 @@ line2 n s r =
     cond (eqb (r .index) n) (moves (s .x) (withLine 3 (withIndex 0 read))) (moves (s .x) (withIndex (r .index + 1) read))
 
 -- 3: "pivot takes X; line 4."
-unfoldable pub line3 : Seen → Row → Advanced
+abbrev pub line3 : Seen → Row → Advanced
 line3 s r = moves (s .x) (withLine 4 (withPivot (s .x) r))
 
 -- refusal 5: "line 4 of an unbounded row would give a token above 1,000,000"
@@ -92,7 +62,7 @@ unfoldable pub line4 : ℕ → ℕ → Seen → Row → Advanced
 line4 algorithm n s r =
     let token = nextToken algorithm n (r .pivot) (r .cells) in
     cond (isAboveLimit algorithm token) (refuses aboveTokenLimit s r)
-    (moves (s .x) (withLine 5 (withCells none (withPivot none (withToken token r)))))
+    (moves (s .x) (withLine 5 (withCells allNone (withPivot none (withToken token r)))))
 
 -- 5: "choosing becomes 0. Index becomes the smallest number other than i and line 6; if n = 1, index 0 and line 8."
 unfoldable pub line5 : ℕ → ℕ → Seen → Row → Advanced
@@ -112,15 +82,15 @@ unfoldable pub line7 : ℕ → ℕ → ℕ → Seen → Row → Advanced
 line7 algorithm n i s r = cond (passes algorithm n i s r) (moves (s .x) (goesOn n i (r .index) r)) (waits s r)
 
 -- 8: "X takes the token; line 9. This step is the entry."
-unfoldable pub line8 : Row → Advanced
+abbrev pub line8 : Row → Advanced
 line8 r = moves (r .token) (withLine 9 r)
 
 -- 9: "line 10."
-unfoldable pub line9 : Seen → Row → Advanced
+abbrev pub line9 : Seen → Row → Advanced
 line9 s r = moves (s .x) (withLine 10 r)
 
 -- 10: "token becomes -1; line 1."
-unfoldable pub line10 : Seen → Row → Advanced
+abbrev pub line10 : Seen → Row → Advanced
 line10 s r = moves (s .x) (withLine 1 (withToken none r))
 
 -- "What a step does is decided by the line, 1 to 10"; no well-formed row stands at another.

@@ -1,10 +1,11 @@
 // One step of a process, line by line: its own row and what it sees of the others go in, and what comes of them goes out.
 ghost use mathlib.Core.Path.{_≡_};
 ghost use Prim.Native.Nat.{ℕ, _-_, _≤_};
-ghost use Rattle.table.specs.Numbers.{slots, isNone, none};
+ghost use Rattle.table.specs.Numbers.{slots, none};
 ghost use Rattle.machine.specs.Ready.{Count, Ready};
 ghost use Rattle.machine.specs.Tokens.{goesBefore};
-ghost use Rattle.machine.specs.Step.{withCell, withCells, withPivot, withToken, withLine};
+ghost use Rattle.machine.specs.Setters.{withCell, withCells, withPivot, withToken, withLine};
+ghost use Rattle.machine.specs.Setters.{allNone};
 ghost use Rattle.machine.specs.Step.{moves, refuses, nextOther, goesOn, passes};
 ghost use Rattle.machine.specs.Step.{line1, line2, line3, line4, line5, line6, line7, line8};
 ghost use Rattle.machine.specs.Step.{line9, line10, advanceOf};
@@ -127,7 +128,7 @@ fn line_3(r: Row, s: Seen) -> Advanced
 
 // The token of either machine as a row keeps it; what was read for it is cleared.
 fn with_token(r: Row, token: Value) -> Row
-    ensures { λ w. ⌜ w ≡ withLine 5 (withCells none (withPivot none (withToken (token .0) r))) ⌝ }
+    ensures { λ w. ⌜ w ≡ withLine 5 (withCells allNone (withPivot none (withToken (token .0) r))) ⌝ }
 {
     let mut w = r;
     w.token = token.0;
@@ -141,16 +142,17 @@ fn line_4(algorithm: u8, n: u8, r: Row, s: Seen) -> Advanced
     requires { ⌜ Count n ⌝ }
     ensures { λ a. ⌜ a ≡ line4 algorithm n s r ⌝ }
 {
+    let pivot = table::pivot_of(r);
     let cells = r.cells;
     if algorithm == UNBOUNDED {
-        let most = UbToken::largest(UbToken::pivot(r), cells);
+        let most = UbToken::largest(UbToken::of(pivot), cells);
         let next = most.next();
         if next.is_above_limit() {
             return kept(r, s, refusal::ABOVE_TOKEN_LIMIT);
         }
         return moved(with_token(r, next.token().value()), s);
     }
-    let next = BToken::next(n, BToken::pivot(r), cells);
+    let next = BToken::next(n, BToken::of(pivot), cells);
     moved(with_token(r, next.value()), s)
 }
 
@@ -187,21 +189,24 @@ fn line_6(r: Row, s: Seen) -> Advanced
     kept(r, s, refusal::NO_REFUSAL)
 }
 
+// Token j.
+fn token_seen(s: Seen) -> Value
+    ensures { λ v. ⌜ v .0 ≡ s .token ⌝ }
+{
+    Value(s.token)
+}
+
 fn goes_before(algorithm: u8, n: u8, i: u8, r: Row, s: Seen) -> bool
     requires { ⌜ Count n ⌝ }
     ensures { λ b. ⌜ b ≡ goesBefore algorithm n i (r .token) (r .index) (s .token) ⌝ }
 {
+    let own = table::token_of(r);
+    let its = token_seen(s);
     let j = r.index;
     if algorithm == UNBOUNDED {
-        return UbToken::held(r).goes_before(i, UbToken::seen(s), j);
+        return UbToken::of(own).goes_before(i, UbToken::of(its), j);
     }
-    BToken::held(r).goes_before(n, i, BToken::seen(s), j)
-}
-
-fn sees_none(s: Seen) -> bool
-    ensures { λ b. ⌜ b ≡ isNone (s .token) ⌝ }
-{
-    Value(s.token).is_none()
+    BToken::of(own).goes_before(n, i, BToken::of(its), j)
 }
 
 // Whether token j is -1 or i goes before j.
@@ -209,7 +214,7 @@ fn passes(algorithm: u8, n: u8, i: u8, r: Row, s: Seen) -> bool
     requires { ⌜ Count n ⌝ }
     ensures { λ b. ⌜ b ≡ passes algorithm n i s r ⌝ }
 {
-    if sees_none(s) {
+    if token_seen(s).is_none() {
         return true;
     }
     goes_before(algorithm, n, i, r, s)
@@ -238,14 +243,17 @@ fn waiting(algorithm: u8, n: u8, i: u8, r: Row, s: Seen) -> Advanced
     }
 }
 
-fn line_8(r: Row, s: Seen) -> Advanced
+fn line_8(r: Row) -> Advanced
     ensures { λ a. ⌜ a ≡ line8 r ⌝ }
 {
     let mut w = r;
     w.line = 9;
-    let mut written = s;
-    written.x = r.token;
-    moved(w, written)
+    Advanced {
+        row: w,
+        x: r.token,
+        mark: 1,
+        stop: refusal::NO_REFUSAL,
+    }
 }
 
 fn line_9(r: Row, s: Seen) -> Advanced
@@ -272,7 +280,7 @@ fn critical(r: Row, s: Seen) -> Advanced
 {
     let line = r.line;
     match line {
-        8 => line_8(r, s),
+        8 => line_8(r),
         9 => line_9(r, s),
         _ => line_10(r, s),
     }

@@ -1,7 +1,7 @@
 // Tokens: the next one, and who goes before, on both machines.
 ghost use mathlib.Core.Path.{_≡_};
 ghost use mathlib.Core.List.{map};
-ghost use Prim.Native.Nat.{_*_, _-_, _<_, _≤_};
+ghost use Prim.Native.Nat.{_*_, _-_, _<_};
 ghost use lib.IntN.{pos, natAbs, _+ℤ_, _-ℤ_};
 ghost use lib.Signed.{ltZ, remZ, quotZ, nonNeg};
 ghost use lib.Dec.{T};
@@ -12,9 +12,7 @@ ghost use Rattle.table.specs.Numbers.{slots, tokenLimit, modulusOf};
 ghost use Rattle.machine.specs.Ready.{Count};
 ghost use Rattle.machine.specs.Tokens.{remainder, larger, largest, shifted};
 ghost use Rattle.machine.specs.Tokens.{shiftedCell, nextB, beforeUb, beforeB};
-use crate::Seen;
 use table::NONE;
-use table::Row;
 use table::SLOTS;
 use table::TOKEN_LIMIT;
 use table::Value;
@@ -138,29 +136,10 @@ fn largest(first: Value, others: [i32; SLOTS]) -> Value
 }
 
 impl UbToken {
-    fn of(v: Value) -> UbToken
+    pub(crate) fn of(v: Value) -> UbToken
         ensures { λ t. ⌜ t .0 ≡ v .0 ⌝ }
     {
         UbToken(v.0)
-    }
-
-    // The pivot of a row, the token that it holds, and the token that a step sees.
-    pub(crate) fn pivot(r: Row) -> UbToken
-        ensures { λ t. ⌜ t .0 ≡ r .pivot ⌝ }
-    {
-        UbToken(r.pivot)
-    }
-
-    pub(crate) fn held(r: Row) -> UbToken
-        ensures { λ t. ⌜ t .0 ≡ r .token ⌝ }
-    {
-        UbToken(r.token)
-    }
-
-    pub(crate) fn seen(s: Seen) -> UbToken
-        ensures { λ t. ⌜ t .0 ≡ s .token ⌝ }
-    {
-        UbToken(s.token)
     }
 
     // The largest of the pivot and the read cells.
@@ -194,26 +173,7 @@ impl UbToken {
 }
 
 impl BToken {
-    // The pivot of a row, the token that it holds, and the token that a step sees.
-    pub(crate) fn pivot(r: Row) -> BToken
-        ensures { λ t. ⌜ t .0 ≡ r .pivot ⌝ }
-    {
-        BToken(r.pivot)
-    }
-
-    pub(crate) fn held(r: Row) -> BToken
-        ensures { λ t. ⌜ t .0 ≡ r .token ⌝ }
-    {
-        BToken(r.token)
-    }
-
-    pub(crate) fn seen(s: Seen) -> BToken
-        ensures { λ t. ⌜ t .0 ≡ s .token ⌝ }
-    {
-        BToken(s.token)
-    }
-
-    fn of(v: Value) -> BToken
+    pub(crate) fn of(v: Value) -> BToken
         ensures { λ t. ⌜ t .0 ≡ v .0 ⌝ }
     {
         BToken(v.0)

@@ -1,3 +1,3 @@
 pub mod Bits
-pub mod Every
+pub mod Tests
 pub mod WellFormed

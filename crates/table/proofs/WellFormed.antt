@@ -18,7 +18,7 @@ use Rattle.table.specs.Sized.{Sized}
 use Rattle.table.specs.declared.Row.{Row}
 use Rattle.table.specs.declared.Table.{Table}
 use Rattle.table.specs.declared.Started.{Started}
-use Rattle.table.proofs.Every.{by-test, and-both, and-halves, every-at, every-all}
+use Rattle.table.proofs.Tests.{by-test, and-both, and-halves, within-low, within-high, within-yes, every-at, every-all}
 
 -- the rules of row i, each by its name
 pub record RowRules (top : ℤ) (n i : ℕ) (r : Row) : Type 0 where
@@ -36,15 +36,6 @@ pub record TableRules (t : Table) : Type 0 where
   pub most : t .n ≤ slots
   pub x : xOk (topOf (t .algorithm) (t .n)) (t .x) ≡ true
   pub rows : (i : ℕ) → 1 ≤ i → i ≤ slots → RowRules (topOf (t .algorithm) (t .n)) (t .n) i (rowOf t i)
-
-pub within-low : (a b x : ℕ) → within a b x ≡ true → a ≤ x
-within-low a b x e = leb-true a x (and-halves (leb a x) (leb x b) e .0)
-
-pub within-high : (a b x : ℕ) → within a b x ≡ true → x ≤ b
-within-high a b x e = leb-true x b (and-halves (leb a x) (leb x b) e .1)
-
-pub within-yes : (a b x : ℕ) → a ≤ x → x ≤ b → within a b x ≡ true
-within-yes a b x l h = and-both (le-leb a x l) (le-leb x b h)
 
 pub row-rules : (top : ℤ) (n i : ℕ) (r : Row) → rowOk top n i r ≡ true → RowRules top n i r
 unfolding rowOk cellsOk

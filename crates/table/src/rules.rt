@@ -151,13 +151,14 @@ fn x_of(t: Table) -> Value
     Value(t.x)
 }
 
-fn token_of(r: Row) -> Value
+// The token of a row, and its pivot.
+pub fn token_of(r: Row) -> Value
     ensures { λ v. ⌜ v .0 ≡ r .token ⌝ }
 {
     Value(r.token)
 }
 
-fn pivot_of(r: Row) -> Value
+pub fn pivot_of(r: Row) -> Value
     ensures { λ v. ⌜ v .0 ≡ r .pivot ⌝ }
 {
     Value(r.pivot)

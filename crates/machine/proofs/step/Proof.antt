@@ -23,7 +23,12 @@ refused-requires-2 c κs = search needs
 
 returns-2 : tie.Need-returns-2
 unfolding stepOf
-returns-2 c = rw (sym (c .before .before .before .well-formed .ensures) ∙ not-false _ (c .before .before .if1 .left), lt-leb _ _ (c .before .if2 .taken), c .refused2 .ensures)
+returns-2 c =
+    rw (
+      sym (c .before .before .before .well-formed .ensures) ∙ not-false _ (c .before .before .if1 .left),
+      lt-leb _ _ (c .before .if2 .taken),
+      c .refused2 .ensures,
+    )
 
 refused-requires-3 : tie.Need-refused-requires-3
 refused-requires-3 c κs = search needs
@@ -32,7 +37,12 @@ returns-3 : tie.Need-returns-3
 unfolding stepOf
 returns-3 c =
     let b = c .before .before .before .before in
-    rw (sym (b .before .well-formed .ensures) ∙ not-false _ (b .if1 .left), le-leb _ _ (c .before .before .before .if2 .left), lt-leb _ _ (c .before .if3 .taken), c .refused3 .ensures)
+    rw (
+      sym (b .before .well-formed .ensures) ∙ not-false _ (b .if1 .left),
+      le-leb _ _ (c .before .before .before .if2 .left),
+      lt-leb _ _ (c .before .if3 .taken),
+      c .refused3 .ensures,
+    )
 
 taken-requires : tie.Need-taken-requires
 taken-requires c κs =
@@ -43,7 +53,12 @@ returns-4 : tie.Need-returns-4
 unfolding stepOf
 returns-4 c =
     let b = c .before .before .before .before in
-    rw (sym (b .before .well-formed .ensures) ∙ not-false _ (b .if1 .left), le-leb _ _ (c .before .before .before .if2 .left), le-leb _ _ (c .before .if3 .left), c .taken .ensures)
+    rw (
+      sym (b .before .well-formed .ensures) ∙ not-false _ (b .if1 .left),
+      le-leb _ _ (c .before .before .before .if2 .left),
+      le-leb _ _ (c .before .if3 .left),
+      c .taken .ensures,
+    )
 
 pub step-spec : {M : Type 1} → statement M
 step-spec =

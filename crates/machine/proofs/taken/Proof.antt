@@ -30,7 +30,13 @@ unfolding takenOf
 returns c =
     let b = c .before .before .before in
     let f : SFits w32 (b .advance .result .x) = search needs in
-    rw (toZ-ofZ f, c .before .before .place-of .ensures, b .advance .ensures, b .before .seen-by .ensures, b .before .before .row-of .ensures)
+    rw (
+      toZ-ofZ f,
+      c .before .before .place-of .ensures,
+      b .advance .ensures,
+      b .before .seen-by .ensures,
+      b .before .before .row-of .ensures,
+    )
 
 pub taken-spec : {M : Type 1} → statement M
 taken-spec =

@@ -24,14 +24,26 @@ refused-requires-3 c κs = search needs
 
 returns-3 : tie.Need-returns-3
 unfolding freshOf
-returns-3 c = rw (le-leb _ _ (c .before .before .before .if1 .left), le-leb _ _ (c .before .before .if2 .left), lt-leb _ _ (c .before .if3 .taken), c .refused3 .ensures)
+returns-3 c =
+    rw (
+      le-leb _ _ (c .before .before .before .if1 .left),
+      le-leb _ _ (c .before .before .if2 .left),
+      lt-leb _ _ (c .before .if3 .taken),
+      c .refused3 .ensures,
+    )
 
 fresh-table-requires : tie.Need-fresh-table-requires
 fresh-table-requires c κs = search needs
 
 returns-4 : tie.Need-returns-4
 unfolding freshOf
-returns-4 c = rw (le-leb _ _ (c .before .before .before .if1 .left), le-leb _ _ (c .before .before .if2 .left), le-leb _ _ (c .before .if3 .left), c .fresh-table .ensures)
+returns-4 c =
+    rw (
+      le-leb _ _ (c .before .before .before .if1 .left),
+      le-leb _ _ (c .before .before .if2 .left),
+      le-leb _ _ (c .before .if3 .left),
+      c .fresh-table .ensures,
+    )
 
 pub fresh-spec : {M : Type 1} → statement M
 fresh-spec =

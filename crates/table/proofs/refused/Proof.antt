@@ -1,5 +1,4 @@
 -- `table::refused` meets its contract.
-use mathlib.Core.Path.{_≡_}
 use borrow.Author.Needs.{needs}
 use Rattle.table.proofs.refused.Statement.{statement}
 use Rattle.table.proofs.refused.Tie as tie

@@ -1,5 +1,5 @@
 -- `advance` meets its contract: at a line that is none of 1 to 10 it waits.
-use mathlib.Core.Path.{_≡_, sym, _∙_}
+use mathlib.Core.Path.{sym, _∙_}
 use mathlib.Core.Logic.{⊎-elim}
 use Rattle.machine.specs.Step.{lineStep}
 use Rattle.machine.proofs.ByLine.{at-line, at-no-line}

@@ -1,5 +1,5 @@
 -- `critical` meets its contract: each arm of the `match` is the line that `advanceOf` picks.
-use mathlib.Core.Path.{_≡_, sym, _∙_}
+use mathlib.Core.Path.{sym, _∙_}
 use Rattle.machine.specs.Step.{lineStep}
 use Rattle.machine.proofs.ByLine.{at-line}
 use native.Mathlib.Omega.{arith}

@@ -5,41 +5,67 @@ use borrow.Author.Needs.{needs}
 use Rattle.machine.proofs.lines.goes_before.Statement.{statement}
 use Rattle.machine.proofs.lines.goes_before.Tie as tie
 
-held-requires : tie.Need-held-requires
-held-requires c κs = search needs
+token-of-requires : tie.Need-token-of-requires
+token-of-requires c κs = search needs
 
-seen-requires : tie.Need-seen-requires
-seen-requires c κs = search needs
+token-seen-requires : tie.Need-token-seen-requires
+token-seen-requires c κs = search needs
+
+of-requires : tie.Need-of-requires
+of-requires c κs = search needs
+
+of-requires-2 : tie.Need-of-requires-2
+of-requires-2 c κs = search needs
 
 goes-before-requires : tie.Need-goes-before-requires
 goes-before-requires c κs = search needs
 
 returns : tie.Need-returns
 unfolding goesBefore
-returns c = rw (eq-eqb _ _ (c .before .before .before .if1 .taken), c .goes-before .ensures, c .before .seen .ensures, c .before .before .held .ensures)
+returns c =
+    let b = c .before .before .before in
+    rw (
+      eq-eqb _ _ (b .if1 .taken),
+      c .goes-before .ensures,
+      c .before .of2 .ensures,
+      c .before .before .of .ensures,
+      b .before .token-seen .ensures,
+      b .before .before .token-of .ensures,
+    )
 
-held-requires-2 : tie.Need-held-requires-2
-held-requires-2 c κs = search needs
+of-requires-3 : tie.Need-of-requires-3
+of-requires-3 c κs = search needs
 
-seen-requires-2 : tie.Need-seen-requires-2
-seen-requires-2 c κs = search needs
+of-requires-4 : tie.Need-of-requires-4
+of-requires-4 c κs = search needs
 
 goes-before-requires-2 : tie.Need-goes-before-requires-2
 goes-before-requires-2 c κs = search needs
 
 returns-2 : tie.Need-returns-2
 unfolding goesBefore
-returns-2 c = rw (ne-eqb _ _ (c .before .before .before .if1 .left), c .goes-before2 .ensures, c .before .seen2 .ensures, c .before .before .held2 .ensures)
+returns-2 c =
+    let b = c .before .before .before in
+    rw (
+      ne-eqb _ _ (b .if1 .left),
+      c .goes-before2 .ensures,
+      c .before .of4 .ensures,
+      c .before .before .of3 .ensures,
+      b .before .token-seen .ensures,
+      b .before .before .token-of .ensures,
+    )
 
 pub goes-before-spec : {M : Type 1} → statement M
 goes-before-spec =
     tie.close
     (tie.spec
-    held-requires
-    seen-requires
+    token-of-requires
+    token-seen-requires
+    of-requires
+    of-requires-2
     goes-before-requires
     returns
-    held-requires-2
-    seen-requires-2
+    of-requires-3
+    of-requires-4
     goes-before-requires-2
     returns-2)

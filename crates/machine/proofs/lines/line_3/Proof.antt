@@ -2,7 +2,6 @@
 use mir.Facts.{toZ-ofZ}
 use mir.Syntax.{w32}
 use mir.Val.{SFits}
-use Rattle.machine.specs.Step.{line3}
 use borrow.Author.Needs.{needs}
 use Rattle.machine.proofs.lines.line_3.Statement.{statement}
 use Rattle.machine.proofs.lines.line_3.Tie as tie
@@ -11,7 +10,6 @@ moved-requires : tie.Need-moved-requires
 moved-requires c κs = search needs
 
 returns : tie.Need-returns
-unfolding line3
 returns c =
     let f : SFits w32 (c .before .before .args .s .x) = search needs in
     rw (toZ-ofZ f) at (c .moved .ensures)

@@ -12,12 +12,22 @@ use Rattle.machine.proofs.lines.line_4.Statement.{statement}
 use Rattle.machine.proofs.lines.line_4.Tie as tie
 
 -- the next token of an unbounded row, which may be above the limit
-next-is : (c : tie.After-next) → nextToken (c .before .before .before .before .before .args .algorithm) (c .before .before .before .before .before .args .n) (c .before .before .before .before .before .args .r .pivot) (c .before .before .before .before .before .args .r .cells) ≡ c .next .result .0
-next-is c =
-    next-unbounded _ _ _ (c .before .before .before .if1 .taken) ∙ rw (c .next .ensures, c .before .largest .ensures, c .before .before .pivot .ensures)
+abbrev NextIs : tie.After-next → Type 0
+NextIs c =
+    let a = c .before .before .before .before .before .before .args in
+    nextToken (a .algorithm) (a .n) (a .r .pivot) (a .r .cells) ≡ c .next .result .0
 
-pivot-requires : tie.Need-pivot-requires
-pivot-requires c κs = search needs
+next-is : (c : tie.After-next) → NextIs c
+next-is c =
+    let b = c .before .before .before in
+    next-unbounded _ _ _ (b .if1 .taken)
+    ∙ rw (c .next .ensures, c .before .largest .ensures, c .before .before .of .ensures, b .before .before .pivot-of .ensures)
+
+pivot-of-requires : tie.Need-pivot-of-requires
+pivot-of-requires c κs = search needs
+
+of-requires : tie.Need-of-requires
+of-requires c κs = search needs
 
 largest-requires : tie.Need-largest-requires
 largest-requires c κs = search needs
@@ -35,7 +45,12 @@ returns : tie.Need-returns
 unfolding line4
 returns c =
     let b = c .before .before .before in
-    rw (next-is b, eq-eqb _ _ (b .before .before .before .if1 .taken), sym (c .before .before .is-above-limit .ensures) ∙ c .before .if2 .taken, c .kept .ensures)
+    rw (
+      next-is b,
+      eq-eqb _ _ (b .before .before .before .if1 .taken),
+      sym (c .before .before .is-above-limit .ensures) ∙ c .before .if2 .taken,
+      c .kept .ensures,
+    )
 
 token-requires : tie.Need-token-requires
 token-requires c κs =
@@ -56,10 +71,18 @@ returns-2 : tie.Need-returns-2
 unfolding line4
 returns-2 c =
     let b = c .before .before .before .before in
-    rw (next-is (b .before .before), eq-eqb _ _ (b .before .before .before .before .before .if1 .taken), sym (b .before .is-above-limit .ensures) ∙ b .if2 .left, c .moved .ensures, c .before .with-token .ensures, c .before .before .value .ensures, c .before .before .before .token .ensures)
+    rw (
+      next-is (b .before .before),
+      eq-eqb _ _ (b .before .before .before .before .before .if1 .taken),
+      sym (b .before .is-above-limit .ensures) ∙ b .if2 .left,
+      c .moved .ensures,
+      c .before .with-token .ensures,
+      c .before .before .value .ensures,
+      c .before .before .before .token .ensures,
+    )
 
-pivot-requires-2 : tie.Need-pivot-requires-2
-pivot-requires-2 c κs = search needs
+of-requires-2 : tie.Need-of-requires-2
+of-requires-2 c κs = search needs
 
 next-requires-2 : tie.Need-next-requires-2
 next-requires-2 c κs = search needs
@@ -77,14 +100,25 @@ returns-3 : tie.Need-returns-3
 unfolding line4
 returns-3 c =
     let b = c .before .before .before in
-    let a = b .before .before .before .before .args in
-    rw (next-bounded (a .n) (a .r .pivot) (a .r .cells) (b .before .before .if1 .left), ne-eqb _ _ (b .before .before .if1 .left), c .moved2 .ensures, c .before .with-token2 .ensures, c .before .before .value2 .ensures, b .next2 .ensures, b .before .pivot2 .ensures)
+    let d = b .before .before in
+    let a = d .before .before .before .args in
+    rw (
+      next-bounded (a .n) (a .r .pivot) (a .r .cells) (d .if1 .left),
+      ne-eqb _ _ (d .if1 .left),
+      c .moved2 .ensures,
+      c .before .with-token2 .ensures,
+      c .before .before .value2 .ensures,
+      b .next2 .ensures,
+      b .before .of2 .ensures,
+      d .before .before .pivot-of .ensures,
+    )
 
 pub line-4-spec : {M : Type 1} → statement M
 line-4-spec =
     tie.close
     (tie.spec
-    pivot-requires
+    pivot-of-requires
+    of-requires
     largest-requires
     next-requires
     is-above-limit-requires
@@ -95,7 +129,7 @@ line-4-spec =
     with-token-requires
     moved-requires
     returns-2
-    pivot-requires-2
+    of-requires-2
     next-requires-2
     value-requires-2
     with-token-requires-2

@@ -16,7 +16,12 @@ moved-requires c κs = search needs
 
 returns : tie.Need-returns
 unfolding line7
-returns c = rw (sym (c .before .before .before .passes .ensures) ∙ c .before .before .if1 .taken, c .moved .ensures, c .before .goes-on .ensures)
+returns c =
+    rw (
+      sym (c .before .before .before .passes .ensures) ∙ c .before .before .if1 .taken,
+      c .moved .ensures,
+      c .before .goes-on .ensures,
+    )
 
 kept-requires : tie.Need-kept-requires
 kept-requires c κs = search needs

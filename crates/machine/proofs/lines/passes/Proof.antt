@@ -1,11 +1,15 @@
 -- `passes` meets its contract.
-use mathlib.Core.Path.{sym, _∙_}
+use mathlib.Core.Path.{sym, ap, _∙_}
+use Rattle.table.specs.Numbers.{isNone}
 use borrow.Author.Needs.{needs}
 use Rattle.machine.proofs.lines.passes.Statement.{statement}
 use Rattle.machine.proofs.lines.passes.Tie as tie
 
-sees-none-requires : tie.Need-sees-none-requires
-sees-none-requires c κs = search needs
+token-seen-requires : tie.Need-token-seen-requires
+token-seen-requires c κs = search needs
+
+is-none-requires : tie.Need-is-none-requires
+is-none-requires c κs = search needs
 
 returns : tie.Need-returns
 returns c = search needs
@@ -14,7 +18,14 @@ goes-before-requires : tie.Need-goes-before-requires
 goes-before-requires c κs = search needs
 
 returns-2 : tie.Need-returns-2
-returns-2 c = rw (sym (c .before .before .sees-none .ensures) ∙ c .before .if1 .left, c .goes-before .ensures)
+returns-2 c =
+    let b = c .before .before in
+    rw (
+      ap isNone (sym (b .before .token-seen .ensures)) ∙ sym (b .is-none .ensures) ∙ c .before .if1 .left,
+      c .goes-before .ensures,
+    )
 
 pub passes-spec : {M : Type 1} → statement M
-passes-spec = tie.close (tie.spec sees-none-requires returns goes-before-requires returns-2)
+passes-spec =
+    tie.close
+    (tie.spec token-seen-requires is-none-requires returns goes-before-requires returns-2)

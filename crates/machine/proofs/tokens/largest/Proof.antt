@@ -1,6 +1,6 @@
 -- `largest` meets its contract. The loop's invariant: the largest of what is left, from here on, is the largest of all.
 use Prim.Native.Nat.{_<_, _≤_, _-_}
-use mathlib.Core.Path.{_≡_, refl, sym, ap, _∙_}
+use mathlib.Core.Path.{_≡_, refl}
 use lib.IntN.{pos}
 use lib.ListN.{length, drop, drop-of-length-le}
 use lib.Seq.{drop-cons}
@@ -38,8 +38,11 @@ unfolding largest
 loop-again c =
     let b = c .before .before .before in
     let l : length (b .before .args .others) ≡ slots = search needs in
-    let h : b .loop .k < length (b .before .args .others) = omega arith in
-    (omega arith, rw (add-one, c .larger .ensures, c .before .value-at .ensures) (rw (drop-cons (b .before .args .others) (b .loop .k) (pos 0) h) at (b .loop .inv .1)))
+    let h : b .loop .k < length (b .before .args .others) = omega arith in (
+      omega arith,
+      rw (add-one, c .larger .ensures, c .before .value-at .ensures)
+          (rw (drop-cons (b .before .args .others) (b .loop .k) (pos 0) h) at (b .loop .inv .1)),
+    )
 
 returns : tie.Need-returns Inv-loop μ-loop
 unfolding largest

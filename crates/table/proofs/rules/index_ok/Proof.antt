@@ -21,7 +21,12 @@ number-within-requires-3 c κs = search needs
 
 returns-2 : tie.Need-returns-2
 unfolding indexOk
-returns-2 c = rw (ne-eqb _ _ (c .before .before .before .if1 .left), sym (c .before .before .number-within2 .ensures) ∙ c .before .if2 .taken, c .number-within3 .ensures)
+returns-2 c =
+    rw (
+      ne-eqb _ _ (c .before .before .before .if1 .left),
+      sym (c .before .before .number-within2 .ensures) ∙ c .before .if2 .taken,
+      c .number-within3 .ensures,
+    )
 
 returns-3 : tie.Need-returns-3
 unfolding indexOk

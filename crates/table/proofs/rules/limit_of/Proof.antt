@@ -1,5 +1,5 @@
 -- `limit_of` meets its contract.
-use mathlib.Core.Path.{_≡_, ap, _∙_}
+use mathlib.Core.Path.{ap, _∙_}
 use borrow.Author.Tests.{eq-eqb, ne-eqb}
 use lib.IntN.{pos}
 use Rattle.table.specs.Numbers.{limitOf}

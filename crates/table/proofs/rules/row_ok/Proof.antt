@@ -32,7 +32,16 @@ returns : tie.Need-returns
 unfolding rowOk
 returns c =
     let b = c .before .before .before .before in
-    rw (c .cells-ok .ensures, c .before .pivot-ok .ensures, c .before .before .pivot-of .ensures, c .before .before .before .token-ok .ensures, b .token-of .ensures, b .before .choosing-ok .ensures, b .before .before .index-ok .ensures, b .before .before .before .line-ok .ensures)
+    rw (
+      c .cells-ok .ensures,
+      c .before .pivot-ok .ensures,
+      c .before .before .pivot-of .ensures,
+      c .before .before .before .token-ok .ensures,
+      b .token-of .ensures,
+      b .before .choosing-ok .ensures,
+      b .before .before .index-ok .ensures,
+      b .before .before .before .line-ok .ensures,
+    )
 
 pub row-ok-spec : {M : Type 1} → statement M
 row-ok-spec =

@@ -6,7 +6,7 @@ use borrow.Author.Tests.{not-true, not-false}
 use Rattle.table.specs.Numbers.{slots}
 use Rattle.table.specs.Tests.{every}
 use Rattle.table.specs.Rules.{rowRule, rowsOk}
-use Rattle.table.proofs.Every.{every-more, every-fails}
+use Rattle.table.proofs.Tests.{every-more, every-fails}
 use borrow.Author.Needs.{needs}
 use native.Mathlib.Omega.{arith}
 use Rattle.table.proofs.rules.rows_ok.Statement.{statement}
@@ -36,7 +36,8 @@ loop-less : tie.Need-loop-less Inv-loop μ-loop
 loop-less c = search needs
 
 loop-again : tie.Need-loop-again Inv-loop μ-loop
-loop-again c = (omega arith, every-more _ _ (c .before .before .before .loop .inv .1) (sym (c .before .row-at-ok .ensures) ∙ not-false _ (c .if1 .left)))
+loop-again c =
+    (omega arith, every-more _ _ (c .before .before .before .loop .inv .1) (sym (c .before .row-at-ok .ensures) ∙ not-false _ (c .if1 .left)))
 
 returns-2 : tie.Need-returns-2 Inv-loop μ-loop
 unfolding rowsOk

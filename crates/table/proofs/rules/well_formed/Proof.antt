@@ -21,7 +21,14 @@ rows-ok-requires c κs = search needs
 
 returns : tie.Need-returns
 unfolding wellFormed
-returns c = rw (c .rows-ok .ensures, c .before .x-ok .ensures, c .before .before .x-of .ensures, c .before .before .before .number-within .ensures, c .before .before .before .before .before .limit-of .ensures)
+returns c =
+    rw (
+      c .rows-ok .ensures,
+      c .before .x-ok .ensures,
+      c .before .before .x-of .ensures,
+      c .before .before .before .number-within .ensures,
+      c .before .before .before .before .before .limit-of .ensures,
+    )
 
 pub well-formed-spec : {M : Type 1} → statement M
 well-formed-spec =

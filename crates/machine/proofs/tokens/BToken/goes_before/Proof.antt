@@ -36,7 +36,13 @@ sub-result c = search needs
 
 returns : tie.Need-returns
 unfolding beforeB
-returns c = rw (c .remainder .ensures, c .before .minus .ensures, c .before .before .whole2 .ensures, c .before .before .before .whole .ensures)
+returns c =
+    rw (
+      c .remainder .ensures,
+      c .before .minus .ensures,
+      c .before .before .whole2 .ensures,
+      c .before .before .before .whole .ensures,
+    )
 
 pub goes-before-spec : {M : Type 1} → statement M
 goes-before-spec =

@@ -23,7 +23,13 @@ returns : tie.Need-returns
 unfolding nextB
 returns c =
     let b = c .before .before in
-    rw (c .unshifted .ensures, c .before .largest .ensures, b .shifted-cells .ensures, b .before .number .ensures, b .before .before .shifted .ensures)
+    rw (
+      c .unshifted .ensures,
+      c .before .largest .ensures,
+      b .shifted-cells .ensures,
+      b .before .number .ensures,
+      b .before .before .shifted .ensures,
+    )
 
 pub next-spec : {M : Type 1} → statement M
 next-spec =

@@ -35,7 +35,12 @@ minus-requires c κs =
     let f : SFits w32 (a .self .0) = search needs in
     let g : SFits w32 (a .pivot .0) = search needs in
     let k = pos (a .n - 1) in
-    rw (c .before .plus .ensures, c .whole2 .ensures, c .before .before .before .whole .ensures, c .before .before .of-number .ensures)
+    rw (
+      c .before .plus .ensures,
+      c .whole2 .ensures,
+      c .before .before .before .whole .ensures,
+      c .before .before .of-number .ensures,
+    )
     (record { sfits = omega (arith, f .sfits, g .sfits, mag-sum (a .self .0) k, mag-difference (a .self .0 +ℤ k) (a .pivot .0)) })
 
 mul-remainder : tie.Need-mul-remainder
@@ -51,7 +56,14 @@ returns : tie.Need-returns
 unfolding shifted
 returns c =
     let b = c .before .before .before in
-    rw (c .remainder .ensures, c .before .minus .ensures, c .before .before .whole2 .ensures, b .plus .ensures, b .before .of-number .ensures, b .before .before .whole .ensures)
+    rw (
+      c .remainder .ensures,
+      c .before .minus .ensures,
+      c .before .before .whole2 .ensures,
+      b .plus .ensures,
+      b .before .of-number .ensures,
+      b .before .before .whole .ensures,
+    )
 
 pub shifted-spec : {M : Type 1} → statement M
 shifted-spec =

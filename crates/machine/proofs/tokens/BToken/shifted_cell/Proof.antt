@@ -25,7 +25,13 @@ returns-2 : tie.Need-returns-2
 unfolding shiftedCell
 returns-2 c =
     let b = c .before .before .before in
-    rw (sym (b .before .value .ensures), sym (b .is-none .ensures) ∙ c .before .before .if1 .left, c .number .ensures, c .before .shifted .ensures, b .before .value .ensures)
+    rw (
+      sym (b .before .value .ensures),
+      sym (b .is-none .ensures) ∙ c .before .before .if1 .left,
+      c .number .ensures,
+      c .before .shifted .ensures,
+      b .before .value .ensures,
+    )
 
 pub shifted-cell-spec : {M : Type 1} → statement M
 shifted-cell-spec =

@@ -50,8 +50,17 @@ loop-again : tie.Need-loop-again Inv-loop μ-loop
 loop-again c =
     let b = c .before .before .before .before .before in
     let f : SFits w32 (c .before .shifted-cell .result .0) = search needs in
-    let l : length (b .before .args .cells) ≡ slots = search needs in
-    (omega arith, rw (toZ-ofZ f, c .before .shifted-cell .ensures, c .before .before .of .ensures, c .before .before .before .value-at .ensures, b .loop .inv .1) (fill-more _ (pos 0) (b .loop .k) _ _ (omega arith) (omega arith)))
+    let l : length (b .before .args .cells) ≡ slots = search needs in (
+      omega arith,
+      rw (
+        toZ-ofZ f,
+        c .before .shifted-cell .ensures,
+        c .before .before .of .ensures,
+        c .before .before .before .value-at .ensures,
+        b .loop .inv .1,
+      )
+          (fill-more _ (pos 0) (b .loop .k) _ _ (omega arith) (omega arith)),
+    )
 
 returns : tie.Need-returns Inv-loop μ-loop
 returns c =

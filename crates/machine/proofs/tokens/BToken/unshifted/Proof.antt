@@ -1,5 +1,5 @@
 -- `BToken::unshifted` meets its contract: no sum of a few numbers of 32 bits wraps in 64.
-use Prim.Native.Nat.{_+_, _<_, _≤_, _^_, suc}
+use Prim.Native.Nat.{_<_, _^_}
 use lib.IntN.{pos, _+ℤ_, _-ℤ_}
 use lib.Signed.{mag}
 use mir.Syntax.{w32}
@@ -47,8 +47,18 @@ plus-requires-2 : tie.Need-plus-requires-2
 plus-requires-2 c κs =
     let b = c .before .before .before in
     let a = b .before .before .before .args in
-    rw (c .before .minus .ensures, c .of-number2 .ensures, b .plus .ensures, c .before .before .of-number .ensures, b .before .whole .ensures, b .before .before .of .ensures)
-    (record { sfits = omega (arith, difference-size (b .before .before .before), mag-sum (a .most .0 +ℤ a .pivot .0 -ℤ pos (a .n)) (pos 2)) })
+    rw (
+      c .before .minus .ensures,
+      c .of-number2 .ensures,
+      b .plus .ensures,
+      c .before .before .of-number .ensures,
+      b .before .whole .ensures,
+      b .before .before .of .ensures,
+    )
+    (record {
+      sfits =
+          omega (arith, difference-size (b .before .before .before), mag-sum (a .most .0 +ℤ a .pivot .0 -ℤ pos (a .n)) (pos 2));
+    })
 
 mul-remainder : tie.Need-mul-remainder
 mul-remainder c = search needs
@@ -69,7 +79,18 @@ returns : tie.Need-returns
 returns c =
     let b = c .before .before .before in
     let d = b .before .before .before in
-    rw (c .of2 .ensures, c .before .number .ensures, c .before .before .remainder .ensures, b .plus2 .ensures, b .before .of-number2 .ensures, b .before .before .minus .ensures, d .of-number .ensures, d .before .plus .ensures, d .before .before .whole .ensures, d .before .before .before .of .ensures)
+    rw (
+      c .of2 .ensures,
+      c .before .number .ensures,
+      c .before .before .remainder .ensures,
+      b .plus2 .ensures,
+      b .before .of-number2 .ensures,
+      b .before .before .minus .ensures,
+      d .of-number .ensures,
+      d .before .plus .ensures,
+      d .before .before .whole .ensures,
+      d .before .before .before .of .ensures,
+    )
 
 pub unshifted-spec : {M : Type 1} → statement M
 unshifted-spec =

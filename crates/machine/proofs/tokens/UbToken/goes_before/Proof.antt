@@ -18,7 +18,13 @@ equals-requires c κs = search needs
 
 returns : tie.Need-returns
 unfolding beforeUb
-returns c = rw (c .equals .ensures, c .before .is-below .ensures, c .before .before .value2 .ensures, c .before .before .before .value .ensures)
+returns c =
+    rw (
+      c .equals .ensures,
+      c .before .is-below .ensures,
+      c .before .before .value2 .ensures,
+      c .before .before .before .value .ensures,
+    )
 
 pub goes-before-spec : {M : Type 1} → statement M
 goes-before-spec =

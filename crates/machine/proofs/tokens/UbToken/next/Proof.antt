@@ -24,7 +24,8 @@ plus-requires c κs =
     (record { sfits = omega (arith, f .sfits, mag-sum (pos 1) (c .before .before .before .args .self .0)) })
 
 returns : tie.Need-returns
-returns c = rw (c .plus .ensures, c .before .of .ensures, c .before .before .value .ensures, c .before .before .before .of-number .ensures)
+returns c =
+    rw (c .plus .ensures, c .before .of .ensures, c .before .before .value .ensures, c .before .before .before .of-number .ensures)
 
 pub next-spec : {M : Type 1} → statement M
 next-spec =

@@ -1,5 +1,5 @@
 -- `Whole::remainder` meets its contract: a remainder below zero is raised by m.
-use mathlib.Core.Path.{_≡_, ap, _∙_}
+use mathlib.Core.Path.{ap, _∙_}
 use lib.IntN.{natAbs, _+ℤ_}
 use mir.Syntax.{w64}
 use mir.Val.{SFits}
@@ -10,14 +10,31 @@ use borrow.Author.Needs.{needs}
 use Rattle.machine.proofs.tokens.Whole.remainder.Statement.{statement}
 use Rattle.machine.proofs.tokens.Whole.remainder.Tie as tie
 
--- the remainder below zero, raised, and the one that is not
-negative : (c : tie.Then1) → Is (c .before .before .signed-remainder .result .0 +ℤ c .before .before .before .of-number .result .0) (remainder (c .before .before .before .before .args .self .0) (c .before .before .before .before .args .m))
-negative c =
-    mended-negative _ _ (omega arith) (omega arith) (c .before .before .before .of-number .ensures) (c .before .before .signed-remainder .ensures) (c .before .is-negative .ensures) (c .if1 .taken)
+-- the remainder below zero, raised by m
+abbrev RaisedIs : tie.Then1 → Type 0
+RaisedIs c =
+    let b = c .before .before in
+    let a = b .before .before .args in
+    Is (b .signed-remainder .result .0 +ℤ b .before .of-number .result .0) (remainder (a .self .0) (a .m))
 
-other : (c : tie.Else1) → Is (c .before .before .signed-remainder .result .0) (remainder (c .before .before .before .before .args .self .0) (c .before .before .before .before .args .m))
-other c =
-    mended-other _ _ (omega arith) (omega arith) (c .before .before .before .of-number .ensures) (c .before .before .signed-remainder .ensures) (c .before .is-negative .ensures) (c .if1 .left)
+raised : (c : tie.Then1) → RaisedIs c
+raised c =
+    let b = c .before .before in
+    mended-negative _ _ (omega arith) (omega arith)
+    (b .before .of-number .ensures) (b .signed-remainder .ensures) (c .before .is-negative .ensures) (c .if1 .taken)
+
+-- and the one that is not below zero
+abbrev KeptIs : tie.Else1 → Type 0
+KeptIs c =
+    let b = c .before .before in
+    let a = b .before .before .args in
+    Is (b .signed-remainder .result .0) (remainder (a .self .0) (a .m))
+
+kept : (c : tie.Else1) → KeptIs c
+kept c =
+    let b = c .before .before in
+    mended-other _ _ (omega arith) (omega arith)
+    (b .before .of-number .ensures) (b .signed-remainder .ensures) (c .before .is-negative .ensures) (c .if1 .left)
 
 of-number-requires : tie.Need-of-number-requires
 of-number-requires c κs = search needs
@@ -31,19 +48,19 @@ is-negative-requires : tie.Need-is-negative-requires
 is-negative-requires c κs = search needs
 
 plus-requires : tie.Need-plus-requires
-plus-requires c κs = negative c .sfits
+plus-requires c κs = raised c .sfits
 
 byte-requires : tie.Need-byte-requires
-byte-requires c κs = rw (c .plus .ensures) (negative (c .before) .nonneg, negative (c .before) .fits)
+byte-requires c κs = rw (c .plus .ensures) (raised (c .before) .nonneg, raised (c .before) .fits)
 
 returns : tie.Need-returns
-returns c = c .byte .ensures ∙ ap natAbs (c .before .plus .ensures) ∙ negative (c .before .before) .value
+returns c = c .byte .ensures ∙ ap natAbs (c .before .plus .ensures) ∙ raised (c .before .before) .value
 
 byte-requires-2 : tie.Need-byte-requires-2
-byte-requires-2 c κs = (other c .nonneg, other c .fits)
+byte-requires-2 c κs = (kept c .nonneg, kept c .fits)
 
 returns-2 : tie.Need-returns-2
-returns-2 c = c .byte2 .ensures ∙ other (c .before) .value
+returns-2 c = c .byte2 .ensures ∙ kept (c .before) .value
 
 pub remainder-spec : {M : Type 1} → statement M
 remainder-spec =

@@ -1,4 +1,4 @@
--- Choices by a test, conjunctions of tests, and what holds of each of 1 to k.
+-- Laws of the tests: choices, conjunctions, a number within two others, and what holds of each of 1 to k.
 use Prim.Native.Nat.{ℕ, zero, suc, _+_, _≤_}
 use mathlib.Core.Path.{_≡_, refl, sym, ap, _∙_}
 use mathlib.Core.Bool.{Bool, true, false, false≢true, cond, _&&_}
@@ -6,7 +6,9 @@ use mathlib.Core.Logic.{⊎-elim}
 use native.Mathlib.Omega.{arith}
 use native.Mathlib.Nat.{le-of-suc-le-suc, eq-or-lt-of-le}
 use native.Mathlib.Numerals.{add-one}
-use Rattle.table.specs.Tests.{every}
+use borrow.Author.Tests.{le-leb, leb-true}
+use lib.Dec.{leb}
+use Rattle.table.specs.Tests.{within, every}
 
 -- a choice by a test has what both its sides have, each where it is chosen
 pub by-test : {A : Type 0} (P : A → Type 0) (t : Bool) {x y : A} → (t ≡ true → P x) → (t ≡ false → P y) → P (cond t x y)
@@ -27,6 +29,16 @@ fails-left a b e = rw e
 fails-right : (a b : Bool) → b ≡ false → (a && b) ≡ false
 fails-right true b e = e
 fails-right false b e = refl
+
+-- a number within two others
+pub within-low : (a b x : ℕ) → within a b x ≡ true → a ≤ x
+within-low a b x e = leb-true a x (and-halves (leb a x) (leb x b) e .0)
+
+pub within-high : (a b x : ℕ) → within a b x ≡ true → x ≤ b
+within-high a b x e = leb-true x b (and-halves (leb a x) (leb x b) e .1)
+
+pub within-yes : (a b x : ℕ) → a ≤ x → x ≤ b → within a b x ≡ true
+within-yes a b x l h = and-both (le-leb a x l) (le-leb x b h)
 
 -- it holds of one number more
 pub every-more : (f : ℕ → Bool) (k : ℕ) → every f k ≡ true → f (k + 1) ≡ true → every f (k + 1) ≡ true
