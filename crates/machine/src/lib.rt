@@ -1,5 +1,6 @@
 // The two machines of document 01: the unbounded (UB-Bakery) and the bounded (B-Bakery), one step at a time.
 mod lines;
+mod numbers;
 mod tokens;
 
 ghost use mathlib.Core.Path.{_≡_};

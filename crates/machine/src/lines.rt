@@ -54,6 +54,7 @@ pub(crate) fn place_of(process: u8) -> usize
     (process - 1) as usize
 }
 
+// The next larger number other than i.
 fn next_other(i: u8, j: u8) -> u8
     requires { ⌜ j ≤ slots ⌝ }
     ensures { λ k. ⌜ k ≡ nextOther i j ⌝ }
@@ -81,6 +82,7 @@ fn goes_on(n: u8, i: u8, j: u8, r: Row) -> Row
     w
 }
 
+// 1: choosing becomes 1, index 1, line 2.
 fn line_1(r: Row, s: Seen) -> Advanced
     ensures { λ a. ⌜ a ≡ line1 s r ⌝ }
 {
@@ -91,6 +93,7 @@ fn line_1(r: Row, s: Seen) -> Advanced
     moved(w, s)
 }
 
+// Read cell j takes the token that is seen.
 fn with_cell(r: Row, j: u8, s: Seen) -> Row
     requires { ⌜ j ≤ slots ⌝ }
     ensures { λ w. ⌜ w ≡ withCell j (s .token) r ⌝ }
@@ -102,6 +105,7 @@ fn with_cell(r: Row, j: u8, s: Seen) -> Row
     w
 }
 
+// 2, index j: read cell j takes token j. Then index j + 1, or, if j = n, index 0 and line 3.
 fn line_2(n: u8, r: Row, s: Seen) -> Advanced
     requires { ⌜ r .index ≤ slots ⌝ }
     ensures { λ a. ⌜ a ≡ line2 n s r ⌝ }
@@ -117,6 +121,7 @@ fn line_2(n: u8, r: Row, s: Seen) -> Advanced
     moved(w, s)
 }
 
+// 3: pivot takes X; line 4.
 fn line_3(r: Row, s: Seen) -> Advanced
     ensures { λ a. ⌜ a ≡ line3 s r ⌝ }
 {
@@ -126,7 +131,7 @@ fn line_3(r: Row, s: Seen) -> Advanced
     moved(w, s)
 }
 
-// The token of either machine as a row keeps it; what was read for it is cleared.
+// The token of either machine, as a row keeps it, and what was read for it cleared.
 fn with_token(r: Row, token: Value) -> Row
     ensures { λ w. ⌜ w ≡ withLine 5 (withCells allNone (withPivot none (withToken (token .0) r))) ⌝ }
 {
@@ -138,6 +143,7 @@ fn with_token(r: Row, token: Value) -> Row
     w
 }
 
+// 4: token takes the next token; pivot and read cells become -1; line 5. Refusal 5 is found here.
 fn line_4(algorithm: u8, n: u8, r: Row, s: Seen) -> Advanced
     requires { ⌜ Count n ⌝ }
     ensures { λ a. ⌜ a ≡ line4 algorithm n s r ⌝ }
@@ -147,15 +153,16 @@ fn line_4(algorithm: u8, n: u8, r: Row, s: Seen) -> Advanced
     if algorithm == UNBOUNDED {
         let most = UbToken::largest(UbToken::of(pivot), cells);
         let next = most.next();
-        if next.is_above_limit() {
+        if UbToken::is_above_limit(next) {
             return kept(r, s, refusal::ABOVE_TOKEN_LIMIT);
         }
-        return moved(with_token(r, next.token().value()), s);
+        return moved(with_token(r, UbToken::of_next(next).value()), s);
     }
     let next = BToken::next(n, BToken::of(pivot), cells);
     moved(with_token(r, next.value()), s)
 }
 
+// 5: choosing becomes 0; then on to the smallest number other than i.
 fn line_5(n: u8, i: u8, r: Row, s: Seen) -> Advanced
     ensures { λ a. ⌜ a ≡ line5 n i s r ⌝ }
 {
@@ -178,6 +185,7 @@ fn doorway(algorithm: u8, n: u8, i: u8, r: Row, s: Seen) -> Advanced
     }
 }
 
+// 6, index j: if choosing j is 0, line 7; else the step waits.
 fn line_6(r: Row, s: Seen) -> Advanced
     ensures { λ a. ⌜ a ≡ line6 s r ⌝ }
 {
@@ -196,6 +204,7 @@ fn token_seen(s: Seen) -> Value
     Value(s.token)
 }
 
+// Whether i goes before j, on the machine of the table.
 fn goes_before(algorithm: u8, n: u8, i: u8, r: Row, s: Seen) -> bool
     requires { ⌜ Count n ⌝ }
     ensures { λ b. ⌜ b ≡ goesBefore algorithm n i (r .token) (r .index) (s .token) ⌝ }
@@ -220,6 +229,7 @@ fn passes(algorithm: u8, n: u8, i: u8, r: Row, s: Seen) -> bool
     goes_before(algorithm, n, i, r, s)
 }
 
+// 7, index j: if token j is -1 or i goes before j, on to the next larger number; else the step waits.
 fn line_7(algorithm: u8, n: u8, i: u8, r: Row, s: Seen) -> Advanced
     requires { ⌜ Ready n r ⌝ }
     ensures { λ a. ⌜ a ≡ line7 algorithm n i s r ⌝ }
@@ -243,6 +253,7 @@ fn waiting(algorithm: u8, n: u8, i: u8, r: Row, s: Seen) -> Advanced
     }
 }
 
+// 8: X takes the token; line 9. This step is the entry.
 fn line_8(r: Row) -> Advanced
     ensures { λ a. ⌜ a ≡ line8 r ⌝ }
 {
@@ -256,6 +267,7 @@ fn line_8(r: Row) -> Advanced
     }
 }
 
+// 9: line 10.
 fn line_9(r: Row, s: Seen) -> Advanced
     ensures { λ a. ⌜ a ≡ line9 s r ⌝ }
 {
@@ -264,6 +276,7 @@ fn line_9(r: Row, s: Seen) -> Advanced
     moved(w, s)
 }
 
+// 10: token becomes -1; line 1.
 fn line_10(r: Row, s: Seen) -> Advanced
     ensures { λ a. ⌜ a ≡ line10 s r ⌝ }
 {

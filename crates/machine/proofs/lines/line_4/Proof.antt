@@ -52,8 +52,8 @@ returns c =
       c .kept .ensures,
     )
 
-token-requires : tie.Need-token-requires
-token-requires c κs =
+of-next-requires : tie.Need-of-next-requires
+of-next-requires c κs =
     let f : SFits w32 (c .before .before .before .largest .result .0) = search needs in
     rw (c .before .before .next .ensures)
     (next-fits _ f (rw (c .before .before .next .ensures) at (sym (c .before .is-above-limit .ensures) ∙ c .if2 .left)))
@@ -78,7 +78,7 @@ returns-2 c =
       c .moved .ensures,
       c .before .with-token .ensures,
       c .before .before .value .ensures,
-      c .before .before .before .token .ensures,
+      c .before .before .before .of-next .ensures,
     )
 
 of-requires-2 : tie.Need-of-requires-2
@@ -124,7 +124,7 @@ line-4-spec =
     is-above-limit-requires
     kept-requires
     returns
-    token-requires
+    of-next-requires
     value-requires
     with-token-requires
     moved-requires

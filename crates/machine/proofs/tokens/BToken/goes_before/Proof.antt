@@ -22,11 +22,8 @@ minus-requires c κs =
     rw (c .before .whole .ensures, c .whole2 .ensures)
     (record { sfits = omega (arith, f .sfits, g .sfits, mag-difference (a .other .0) (a .self .0)) })
 
-mul-remainder : tie.Need-mul-remainder
-mul-remainder c = search needs
-
-sub-remainder : tie.Need-sub-remainder
-sub-remainder c = search needs
+modulus-requires : tie.Need-modulus-requires
+modulus-requires c κs = search needs
 
 remainder-requires : tie.Need-remainder-requires
 remainder-requires c κs = search needs
@@ -39,9 +36,10 @@ unfolding beforeB
 returns c =
     rw (
       c .remainder .ensures,
-      c .before .minus .ensures,
-      c .before .before .whole2 .ensures,
-      c .before .before .before .whole .ensures,
+      c .before .modulus .ensures,
+      c .before .before .minus .ensures,
+      c .before .before .before .whole2 .ensures,
+      c .before .before .before .before .whole .ensures,
     )
 
 pub goes-before-spec : {M : Type 1} → statement M
@@ -51,8 +49,7 @@ goes-before-spec =
     whole-requires
     whole-requires-2
     minus-requires
-    mul-remainder
-    sub-remainder
+    modulus-requires
     remainder-requires
     sub-result
     returns)

@@ -43,11 +43,8 @@ minus-requires c κs =
     )
     (record { sfits = omega (arith, f .sfits, g .sfits, mag-sum (a .self .0) k, mag-difference (a .self .0 +ℤ k) (a .pivot .0)) })
 
-mul-remainder : tie.Need-mul-remainder
-mul-remainder c = search needs
-
-sub-remainder : tie.Need-sub-remainder
-sub-remainder c = search needs
+modulus-requires : tie.Need-modulus-requires
+modulus-requires c κs = search needs
 
 remainder-requires : tie.Need-remainder-requires
 remainder-requires c κs = search needs
@@ -58,11 +55,12 @@ returns c =
     let b = c .before .before .before in
     rw (
       c .remainder .ensures,
-      c .before .minus .ensures,
-      c .before .before .whole2 .ensures,
-      b .plus .ensures,
-      b .before .of-number .ensures,
-      b .before .before .whole .ensures,
+      c .before .modulus .ensures,
+      c .before .before .minus .ensures,
+      b .whole2 .ensures,
+      b .before .plus .ensures,
+      b .before .before .of-number .ensures,
+      b .before .before .before .whole .ensures,
     )
 
 pub shifted-spec : {M : Type 1} → statement M
@@ -75,7 +73,6 @@ shifted-spec =
     plus-requires
     whole-requires-2
     minus-requires
-    mul-remainder
-    sub-remainder
+    modulus-requires
     remainder-requires
     returns)

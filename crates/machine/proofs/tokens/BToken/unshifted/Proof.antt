@@ -60,11 +60,8 @@ plus-requires-2 c κs =
           omega (arith, difference-size (b .before .before .before), mag-sum (a .most .0 +ℤ a .pivot .0 -ℤ pos (a .n)) (pos 2));
     })
 
-mul-remainder : tie.Need-mul-remainder
-mul-remainder c = search needs
-
-sub-remainder : tie.Need-sub-remainder
-sub-remainder c = search needs
+modulus-requires : tie.Need-modulus-requires
+modulus-requires c κs = search needs
 
 remainder-requires : tie.Need-remainder-requires
 remainder-requires c κs = search needs
@@ -77,12 +74,13 @@ of-requires-2 c κs = search needs
 
 returns : tie.Need-returns
 returns c =
-    let b = c .before .before .before in
+    let b = c .before .before .before .before in
     let d = b .before .before .before in
     rw (
       c .of2 .ensures,
       c .before .number .ensures,
       c .before .before .remainder .ensures,
+      c .before .before .before .modulus .ensures,
       b .plus2 .ensures,
       b .before .of-number2 .ensures,
       b .before .before .minus .ensures,
@@ -103,8 +101,7 @@ unshifted-spec =
     minus-requires
     of-number-requires-2
     plus-requires-2
-    mul-remainder
-    sub-remainder
+    modulus-requires
     remainder-requires
     number-requires
     of-requires-2

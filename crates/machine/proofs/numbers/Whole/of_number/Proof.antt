@@ -3,8 +3,8 @@ use mir.Facts.{toZ-pos}
 use mir.Syntax.{w64}
 use native.Mathlib.Omega.{arith}
 use borrow.Author.Needs.{needs}
-use Rattle.machine.proofs.tokens.Whole.of_number.Statement.{statement}
-use Rattle.machine.proofs.tokens.Whole.of_number.Tie as tie
+use Rattle.machine.proofs.numbers.Whole.of_number.Statement.{statement}
+use Rattle.machine.proofs.numbers.Whole.of_number.Tie as tie
 
 cast-t2 : tie.Need-cast-t2
 cast-t2 c = search needs

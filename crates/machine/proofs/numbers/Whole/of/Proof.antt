@@ -3,8 +3,8 @@ use mir.Facts.{toZ-ofZ, sfits-widen}
 use mir.Syntax.{w32, w64}
 use mir.Val.{SFits}
 use borrow.Author.Needs.{needs}
-use Rattle.machine.proofs.tokens.Whole.of.Statement.{statement}
-use Rattle.machine.proofs.tokens.Whole.of.Tie as tie
+use Rattle.machine.proofs.numbers.Whole.of.Statement.{statement}
+use Rattle.machine.proofs.numbers.Whole.of.Tie as tie
 
 cast-t2 : tie.Need-cast-t2
 cast-t2 c =

@@ -1,8 +1,8 @@
 -- `larger` meets its contract.
 use mathlib.Core.Path.{sym, _∙_}
 use borrow.Author.Needs.{needs}
-use Rattle.machine.proofs.tokens.larger.Statement.{statement}
-use Rattle.machine.proofs.tokens.larger.Tie as tie
+use Rattle.machine.proofs.numbers.larger.Statement.{statement}
+use Rattle.machine.proofs.numbers.larger.Tie as tie
 
 is-below-requires : tie.Need-is-below-requires
 is-below-requires c κs = search needs

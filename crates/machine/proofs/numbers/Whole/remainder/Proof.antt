@@ -7,8 +7,8 @@ use Rattle.machine.specs.Tokens.{remainder}
 use Rattle.machine.proofs.Remainder.{Is, mended-negative, mended-other, quotient-fits, rest-fits}
 use native.Mathlib.Omega.{arith}
 use borrow.Author.Needs.{needs}
-use Rattle.machine.proofs.tokens.Whole.remainder.Statement.{statement}
-use Rattle.machine.proofs.tokens.Whole.remainder.Tie as tie
+use Rattle.machine.proofs.numbers.Whole.remainder.Statement.{statement}
+use Rattle.machine.proofs.numbers.Whole.remainder.Tie as tie
 
 -- the remainder below zero, raised by m
 abbrev RaisedIs : tie.Then1 → Type 0

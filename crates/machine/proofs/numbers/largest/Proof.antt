@@ -9,8 +9,8 @@ use Rattle.table.specs.Numbers.{slots}
 use Rattle.machine.specs.Tokens.{largest}
 use borrow.Author.Needs.{needs}
 use native.Mathlib.Omega.{arith}
-use Rattle.machine.proofs.tokens.largest.Statement.{statement}
-use Rattle.machine.proofs.tokens.largest.Tie as tie
+use Rattle.machine.proofs.numbers.largest.Statement.{statement}
+use Rattle.machine.proofs.numbers.largest.Tie as tie
 
 abbrev Inv-loop : tie.InvT-loop
 Inv-loop others most₀ k₀ most k = (k ≤ slots) × (largest (most .0) (drop k others) ≡ largest (most₀ .0) others)

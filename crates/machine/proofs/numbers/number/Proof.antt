@@ -3,8 +3,8 @@ use mir.Facts.{toZ-pos}
 use mir.Syntax.{w32}
 use native.Mathlib.Omega.{arith}
 use borrow.Author.Needs.{needs}
-use Rattle.machine.proofs.tokens.number.Statement.{statement}
-use Rattle.machine.proofs.tokens.number.Tie as tie
+use Rattle.machine.proofs.numbers.number.Statement.{statement}
+use Rattle.machine.proofs.numbers.number.Tie as tie
 
 cast-t2 : tie.Need-cast-t2
 cast-t2 c = search needs
