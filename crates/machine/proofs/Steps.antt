@@ -16,7 +16,7 @@ use Rattle.table.specs.declared.Row.{Row}
 use Rattle.table.specs.declared.Table.{Table}
 use Rattle.table.proofs.Tests.{by-test, within-low, within-high}
 use Rattle.table.proofs.WellFormed.{TableRules, RowRules, table-rules, well-formed, token-range}
-use Rattle.machine.specs.Step.{seenOf, putBack, refusedWith, advanceOf, takenOf, stepOf}
+use Rattle.machine.specs.Step.{seenOf, putBack, refusedStep, advanceOf, takenOf, stepOf}
 use Rattle.machine.specs.declared.Advanced.{Advanced}
 use Rattle.machine.specs.declared.Stepped.{Stepped}
 use Rattle.machine.proofs.Keeps.{Sees, Kept, advance-keeps}
@@ -24,7 +24,7 @@ use Rattle.machine.proofs.Marks.{Still, Moved, Marked, advance-marked}
 
 -- A step is refused, or it is the step of one of the processes of a well-formed table.
 by-case : (t : Table) (i : ℕ) (P : Stepped → Type 0)
-    → ((stop : ℕ) → (stop ≡ 0 → ⊥) → P (refusedWith t stop))
+    → ((stop : ℕ) → (stop ≡ 0 → ⊥) → P (refusedStep t stop))
     → (wellFormed t ≡ true → 1 ≤ i → i ≤ t .n → P (takenOf t i))
     → P (stepOf t i)
 unfolding stepOf

@@ -128,12 +128,12 @@ takenOf t i =
     record { table = putBack t i a; mark = a .mark; stop = a .stop }
 
 -- "On refusal step returns the given table and the mark 0"
-abbrev pub refusedWith : Table → ℕ → Stepped
-refusedWith t stop = record { table = t; mark = 0; stop = stop }
+abbrev pub refusedStep : Table → ℕ → Stepped
+refusedStep t stop = record { table = t; mark = 0; stop = stop }
 
 -- "Step: 3, 4, 5."
 unfoldable pub stepOf : Table → ℕ → Stepped
 stepOf t i =
     cond (wellFormed t)
-    (cond (within 1 (t .n) i) (takenOf t i) (refusedWith t badProcessNumber))
-    (refusedWith t notWellFormed)
+    (cond (within 1 (t .n) i) (takenOf t i) (refusedStep t badProcessNumber))
+    (refusedStep t notWellFormed)

@@ -8,7 +8,7 @@ ghost use Prim.Native.Nat.{_≤_};
 ghost use Rattle.table.specs.Numbers.{slots};
 ghost use Rattle.table.specs.Rules.{rowOf};
 ghost use Rattle.machine.specs.Ready.{Ready};
-ghost use Rattle.machine.specs.Step.{seenOf, refusedWith, takenOf, stepOf};
+ghost use Rattle.machine.specs.Step.{seenOf, refusedStep, takenOf, stepOf};
 use lines::advance;
 use lines::place_of;
 use table::Row;
@@ -61,7 +61,7 @@ fn seen_by(t: Table, r: Row) -> Seen
 
 // A refusal gives the table back.
 fn refused(t: Table, stop: u8) -> Stepped
-    ensures { λ s. ⌜ s ≡ refusedWith t stop ⌝ }
+    ensures { λ s. ⌜ s ≡ refusedStep t stop ⌝ }
 {
     Stepped {
         table: t,
@@ -76,7 +76,7 @@ fn taken(t: Table, i: u8) -> Stepped
     ensures { λ s. ⌜ s ≡ takenOf t i ⌝ }
 {
     let r = row_of(t, i);
-    let a = advance(t.algorithm, t.n, i, r, seen_by(t, r));
+    let a = advance(t.algorithm, t.n, i, seen_by(t, r), r);
     let k = place_of(i);
     let row = a.row;
     let mut after = t;

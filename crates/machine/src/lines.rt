@@ -21,7 +21,7 @@ use table::Value;
 use table::refusal;
 
 // The step changed the row.
-fn moved(r: Row, s: Seen) -> Advanced
+fn moved(s: Seen, r: Row) -> Advanced
     ensures { λ a. ⌜ a ≡ moves (s .x) r ⌝ }
 {
     Advanced {
@@ -33,7 +33,7 @@ fn moved(r: Row, s: Seen) -> Advanced
 }
 
 // The step changed nothing: it waits, or is refused.
-fn kept(r: Row, s: Seen, stop: u8) -> Advanced
+fn kept(stop: u8, s: Seen, r: Row) -> Advanced
     ensures { λ a. ⌜ a ≡ refuses stop s r ⌝ }
 {
     Advanced {
@@ -83,18 +83,18 @@ fn goes_on(n: u8, i: u8, j: u8, r: Row) -> Row
 }
 
 // 1: choosing becomes 1, index 1, line 2.
-fn line_1(r: Row, s: Seen) -> Advanced
+fn line_1(s: Seen, r: Row) -> Advanced
     ensures { λ a. ⌜ a ≡ line1 s r ⌝ }
 {
     let mut w = r;
     w.choosing = 1;
     w.index = 1;
     w.line = 2;
-    moved(w, s)
+    moved(s, w)
 }
 
 // Read cell j takes the token that is seen.
-fn with_cell(r: Row, j: u8, s: Seen) -> Row
+fn with_cell(j: u8, s: Seen, r: Row) -> Row
     requires { ⌜ j ≤ slots ⌝ }
     ensures { λ w. ⌜ w ≡ withCell j (s .token) r ⌝ }
 {
@@ -106,33 +106,33 @@ fn with_cell(r: Row, j: u8, s: Seen) -> Row
 }
 
 // 2, index j: read cell j takes token j. Then index j + 1, or, if j = n, index 0 and line 3.
-fn line_2(n: u8, r: Row, s: Seen) -> Advanced
+fn line_2(n: u8, s: Seen, r: Row) -> Advanced
     requires { ⌜ r .index ≤ slots ⌝ }
     ensures { λ a. ⌜ a ≡ line2 n s r ⌝ }
 {
     let j = r.index;
-    let mut w = with_cell(r, j, s);
+    let mut w = with_cell(j, s, r);
     if j == n {
         w.index = 0;
         w.line = 3;
-        return moved(w, s);
+        return moved(s, w);
     }
     w.index = j + 1;
-    moved(w, s)
+    moved(s, w)
 }
 
 // 3: pivot takes X; line 4.
-fn line_3(r: Row, s: Seen) -> Advanced
+fn line_3(s: Seen, r: Row) -> Advanced
     ensures { λ a. ⌜ a ≡ line3 s r ⌝ }
 {
     let mut w = r;
     w.pivot = s.x;
     w.line = 4;
-    moved(w, s)
+    moved(s, w)
 }
 
 // The token of either machine, as a row keeps it, and what was read for it cleared.
-fn with_token(r: Row, token: Value) -> Row
+fn with_token(token: Value, r: Row) -> Row
     ensures { λ w. ⌜ w ≡ withLine 5 (withCells allNone (withPivot none (withToken (token .0) r))) ⌝ }
 {
     let mut w = r;
@@ -144,7 +144,7 @@ fn with_token(r: Row, token: Value) -> Row
 }
 
 // 4: token takes the next token; pivot and read cells become -1; line 5. Refusal 5 is found here.
-fn line_4(algorithm: u8, n: u8, r: Row, s: Seen) -> Advanced
+fn line_4(algorithm: u8, n: u8, s: Seen, r: Row) -> Advanced
     requires { ⌜ Count n ⌝ }
     ensures { λ a. ⌜ a ≡ line4 algorithm n s r ⌝ }
 {
@@ -154,47 +154,47 @@ fn line_4(algorithm: u8, n: u8, r: Row, s: Seen) -> Advanced
         let most = UbToken::largest(UbToken::of(pivot), cells);
         let next = most.next();
         if UbToken::is_above_limit(next) {
-            return kept(r, s, refusal::ABOVE_TOKEN_LIMIT);
+            return kept(refusal::ABOVE_TOKEN_LIMIT, s, r);
         }
-        return moved(with_token(r, UbToken::of_next(next).value()), s);
+        return moved(s, with_token(UbToken::of_next(next).value(), r));
     }
     let next = BToken::next(n, BToken::of(pivot), cells);
-    moved(with_token(r, next.value()), s)
+    moved(s, with_token(next.value(), r))
 }
 
 // 5: choosing becomes 0; then on to the smallest number other than i.
-fn line_5(n: u8, i: u8, r: Row, s: Seen) -> Advanced
+fn line_5(n: u8, i: u8, s: Seen, r: Row) -> Advanced
     ensures { λ a. ⌜ a ≡ line5 n i s r ⌝ }
 {
     let mut w = r;
     w.choosing = 0;
-    moved(goes_on(n, i, 0, w), s)
+    moved(s, goes_on(n, i, 0, w))
 }
 
 // Lines 2 to 5.
-fn doorway(algorithm: u8, n: u8, i: u8, r: Row, s: Seen) -> Advanced
+fn doorway(algorithm: u8, n: u8, i: u8, s: Seen, r: Row) -> Advanced
     requires { ⌜ Ready n r × (2 ≤ r .line) × (r .line ≤ 5) ⌝ }
     ensures { λ a. ⌜ a ≡ advanceOf algorithm n i s r ⌝ }
 {
     let line = r.line;
     match line {
-        2 => line_2(n, r, s),
-        3 => line_3(r, s),
-        4 => line_4(algorithm, n, r, s),
-        _ => line_5(n, i, r, s),
+        2 => line_2(n, s, r),
+        3 => line_3(s, r),
+        4 => line_4(algorithm, n, s, r),
+        _ => line_5(n, i, s, r),
     }
 }
 
 // 6, index j: if choosing j is 0, line 7; else the step waits.
-fn line_6(r: Row, s: Seen) -> Advanced
+fn line_6(s: Seen, r: Row) -> Advanced
     ensures { λ a. ⌜ a ≡ line6 s r ⌝ }
 {
     if s.choosing == 0 {
         let mut w = r;
         w.line = 7;
-        return moved(w, s);
+        return moved(s, w);
     }
-    kept(r, s, refusal::NO_REFUSAL)
+    kept(refusal::NO_REFUSAL, s, r)
 }
 
 // Token j.
@@ -205,7 +205,7 @@ fn token_seen(s: Seen) -> Value
 }
 
 // Whether i goes before j, on the machine of the table.
-fn goes_before(algorithm: u8, n: u8, i: u8, r: Row, s: Seen) -> bool
+fn goes_before(algorithm: u8, n: u8, i: u8, s: Seen, r: Row) -> bool
     requires { ⌜ Count n ⌝ }
     ensures { λ b. ⌜ b ≡ goesBefore algorithm n i (r .token) (r .index) (s .token) ⌝ }
 {
@@ -219,37 +219,37 @@ fn goes_before(algorithm: u8, n: u8, i: u8, r: Row, s: Seen) -> bool
 }
 
 // Whether token j is -1 or i goes before j.
-fn passes(algorithm: u8, n: u8, i: u8, r: Row, s: Seen) -> bool
+fn passes(algorithm: u8, n: u8, i: u8, s: Seen, r: Row) -> bool
     requires { ⌜ Count n ⌝ }
     ensures { λ b. ⌜ b ≡ passes algorithm n i s r ⌝ }
 {
-    if token_seen(s).is_none() {
+    if token_seen(s).equals(Value(NONE)) {
         return true;
     }
-    goes_before(algorithm, n, i, r, s)
+    goes_before(algorithm, n, i, s, r)
 }
 
 // 7, index j: if token j is -1 or i goes before j, on to the next larger number; else the step waits.
-fn line_7(algorithm: u8, n: u8, i: u8, r: Row, s: Seen) -> Advanced
+fn line_7(algorithm: u8, n: u8, i: u8, s: Seen, r: Row) -> Advanced
     requires { ⌜ Ready n r ⌝ }
     ensures { λ a. ⌜ a ≡ line7 algorithm n i s r ⌝ }
 {
     let j = r.index;
-    if passes(algorithm, n, i, r, s) {
-        return moved(goes_on(n, i, j, r), s);
+    if passes(algorithm, n, i, s, r) {
+        return moved(s, goes_on(n, i, j, r));
     }
-    kept(r, s, refusal::NO_REFUSAL)
+    kept(refusal::NO_REFUSAL, s, r)
 }
 
 // Lines 6 and 7.
-fn waiting(algorithm: u8, n: u8, i: u8, r: Row, s: Seen) -> Advanced
+fn waiting(algorithm: u8, n: u8, i: u8, s: Seen, r: Row) -> Advanced
     requires { ⌜ Ready n r × (6 ≤ r .line) × (r .line ≤ 7) ⌝ }
     ensures { λ a. ⌜ a ≡ advanceOf algorithm n i s r ⌝ }
 {
     let line = r.line;
     match line {
-        6 => line_6(r, s),
-        _ => line_7(algorithm, n, i, r, s),
+        6 => line_6(s, r),
+        _ => line_7(algorithm, n, i, s, r),
     }
 }
 
@@ -268,48 +268,48 @@ fn line_8(r: Row) -> Advanced
 }
 
 // 9: line 10.
-fn line_9(r: Row, s: Seen) -> Advanced
+fn line_9(s: Seen, r: Row) -> Advanced
     ensures { λ a. ⌜ a ≡ line9 s r ⌝ }
 {
     let mut w = r;
     w.line = 10;
-    moved(w, s)
+    moved(s, w)
 }
 
 // 10: token becomes -1; line 1.
-fn line_10(r: Row, s: Seen) -> Advanced
+fn line_10(s: Seen, r: Row) -> Advanced
     ensures { λ a. ⌜ a ≡ line10 s r ⌝ }
 {
     let mut w = r;
     w.token = NONE;
     w.line = 1;
-    moved(w, s)
+    moved(s, w)
 }
 
 // Lines 8 to 10.
-fn critical(r: Row, s: Seen) -> Advanced
+fn critical(s: Seen, r: Row) -> Advanced
     requires { ⌜ (8 ≤ r .line) × (r .line ≤ 10) ⌝ }
     ensures { λ a. ⌜ ((algorithm n i : ℕ) → a ≡ advanceOf algorithm n i s r) ⌝ }
 {
     let line = r.line;
     match line {
         8 => line_8(r),
-        9 => line_9(r, s),
-        _ => line_10(r, s),
+        9 => line_9(s, r),
+        _ => line_10(s, r),
     }
 }
 
 // One step of process i, whose row is r and who sees s.
-pub(crate) fn advance(algorithm: u8, n: u8, i: u8, r: Row, s: Seen) -> Advanced
+pub(crate) fn advance(algorithm: u8, n: u8, i: u8, s: Seen, r: Row) -> Advanced
     requires { ⌜ Ready n r ⌝ }
     ensures { λ a. ⌜ a ≡ advanceOf algorithm n i s r ⌝ }
 {
     let line = r.line;
     match line {
-        1 => line_1(r, s),
-        2..=5 => doorway(algorithm, n, i, r, s),
-        6..=7 => waiting(algorithm, n, i, r, s),
-        8..=10 => critical(r, s),
-        _ => kept(r, s, refusal::NO_REFUSAL),
+        1 => line_1(s, r),
+        2..=5 => doorway(algorithm, n, i, s, r),
+        6..=7 => waiting(algorithm, n, i, s, r),
+        8..=10 => critical(s, r),
+        _ => kept(refusal::NO_REFUSAL, s, r),
     }
 }

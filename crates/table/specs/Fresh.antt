@@ -20,8 +20,8 @@ abbrev pub freshTable : ℕ → ℕ → Table
 freshTable algorithm n = record { algorithm = algorithm; n = n; x = pos 0; rows = replicate slots freshRow }
 
 -- "refused, fresh and read show, in the table's place, the fresh unbounded table for n = 1"
-abbrev pub refusedWith : ℕ → Started
-refusedWith stop = record { table = freshTable unbounded 1; stop = stop }
+abbrev pub refusedFresh : ℕ → Started
+refusedFresh stop = record { table = freshTable unbounded 1; stop = stop }
 
 -- "Fresh: 1, 2."
 unfoldable pub freshOf : ℕ → ℕ → Started
@@ -29,5 +29,5 @@ freshOf algorithm n =
     cond (leb algorithm bounded)
     (cond (within 1 slots n)
     (record { table = freshTable algorithm n; stop = noRefusal })
-    (refusedWith badProcessCount))
-    (refusedWith badAlgorithm)
+    (refusedFresh badProcessCount))
+    (refusedFresh badAlgorithm)

@@ -16,7 +16,7 @@ unbounded = 0
 abbrev pub bounded : ℕ
 bounded = 1
 
--- "-1 is none": no token, no pivot, nothing seen
+-- -1 stands for none: no token, no pivot, nothing seen; 0 is a token like any other
 abbrev pub none : ℤ
 none = negsuc 0
 
@@ -30,6 +30,7 @@ tokenLimit = 1000000
 unfoldable pub limitOf : ℕ → ℕ → ℕ
 limitOf algorithm n = cond (eqb algorithm unbounded) tokenLimit (2 * n - 2)
 
+-- T among the numbers that it bounds, which may be -1
 abbrev pub topOf : ℕ → ℕ → ℤ
 topOf algorithm n = pos (limitOf algorithm n)
 

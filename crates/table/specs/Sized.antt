@@ -1,4 +1,4 @@
--- A table as code holds it: sixteen rows of sixteen read cells. The lists of a definition could be of any length.
+-- A table as code holds it: sixteen rows of sixteen read cells. The lists of a definition could have any length.
 use Prim.Native.Nat.{ℕ, _≤_}
 use mathlib.Core.Path.{_≡_}
 use lib.ListN.{length}

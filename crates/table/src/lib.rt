@@ -15,7 +15,7 @@ pub use rules::token_ok;
 pub use rules::well_formed;
 pub use rules::x_ok;
 ghost use mathlib.Core.Path.{_≡_};
-ghost use Rattle.table.specs.Fresh.{freshTable, refusedWith, freshOf};
+ghost use Rattle.table.specs.Fresh.{freshTable, refusedFresh, freshOf};
 
 // The slots of a board: rows of a table, and read cells of a row.
 pub const SLOTS: usize = 16;
@@ -109,7 +109,7 @@ fn fresh_table(algorithm: u8, n: u8) -> Table
 
 // A refusal shows, in the table's place, the fresh unbounded table for n = 1.
 fn refused(stop: u8) -> Started
-    ensures { λ s. ⌜ s ≡ refusedWith stop ⌝ }
+    ensures { λ s. ⌜ s ≡ refusedFresh stop ⌝ }
 {
     Started {
         table: fresh_table(UNBOUNDED, 1),

@@ -8,11 +8,13 @@ use Rattle.machine.proofs.lines.passes.Tie as tie
 token-seen-requires : tie.Need-token-seen-requires
 token-seen-requires c κs = search needs
 
-is-none-requires : tie.Need-is-none-requires
-is-none-requires c κs = search needs
+equals-requires : tie.Need-equals-requires
+equals-requires c κs = search needs
 
 returns : tie.Need-returns
-returns c = search needs
+returns c =
+    let b = c .before in
+    rw (ap isNone (sym (b .before .token-seen .ensures)) ∙ sym (b .equals .ensures) ∙ c .if1 .taken)
 
 goes-before-requires : tie.Need-goes-before-requires
 goes-before-requires c κs = search needs
@@ -20,12 +22,8 @@ goes-before-requires c κs = search needs
 returns-2 : tie.Need-returns-2
 returns-2 c =
     let b = c .before .before in
-    rw (
-      ap isNone (sym (b .before .token-seen .ensures)) ∙ sym (b .is-none .ensures) ∙ c .before .if1 .left,
-      c .goes-before .ensures,
-    )
+    rw (ap isNone (sym (b .before .token-seen .ensures)) ∙ sym (b .equals .ensures) ∙ c .before .if1 .left, c .goes-before .ensures)
 
 pub passes-spec : {M : Type 1} → statement M
 passes-spec =
-    tie.close
-    (tie.spec token-seen-requires is-none-requires returns goes-before-requires returns-2)
+    tie.close (tie.spec token-seen-requires equals-requires returns goes-before-requires returns-2)
