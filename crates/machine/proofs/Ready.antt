@@ -3,14 +3,18 @@ use Prim.Native.Nat.{ℕ, _≤_}
 use mathlib.Core.Path.{_≡_}
 use mathlib.Core.Bool.{true}
 use native.Mathlib.Omega.{arith}
+use Rattle.table.specs.Tests.{within}
 use Rattle.table.specs.Numbers.{slots}
 use Rattle.table.specs.Rules.{rowOf, wellFormed}
 use Rattle.table.specs.declared.Table.{Table}
+use Rattle.table.proofs.Tests.{within-low, within-high}
 use Rattle.table.proofs.WellFormed.{table-rules, index-range}
 use Rattle.machine.specs.Ready.{Ready}
 
-pub ready : (t : Table) (i : ℕ) → wellFormed t ≡ true → 1 ≤ i → i ≤ t .n → (i ≤ slots) × Ready (t .n) (rowOf t i)
-ready t i w low high =
+pub ready : (t : Table) (i : ℕ) → wellFormed t ≡ true → within 1 (t .n) i ≡ true → (i ≤ slots) × Ready (t .n) (rowOf t i)
+ready t i w p =
     let rules = table-rules t w in
+    let low = within-low 1 (t .n) i p in
+    let high = within-high 1 (t .n) i p in
     let index = index-range (t .n) i _ _ (rules .rows i low (omega arith) .index) in
     (omega arith, record { count = record { some = rules .some; most = rules .most }; index = omega arith })

@@ -96,10 +96,7 @@ pub fn step(t: Table, process: u8) -> Stepped
     if !table::well_formed(t) {
         return refused(t, refusal::NOT_WELL_FORMED);
     }
-    if process < 1 {
-        return refused(t, refusal::PROCESS_NUMBER);
-    }
-    if t.n < process {
+    if !table::number_within(1, t.n, process) {
         return refused(t, refusal::PROCESS_NUMBER);
     }
     taken(t, process)

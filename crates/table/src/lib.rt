@@ -8,6 +8,7 @@ pub use rules::index_ok;
 pub use rules::limit_of;
 pub use rules::line_ok;
 pub use rules::may_hold;
+pub use rules::number_within;
 pub use rules::pivot_of;
 pub use rules::pivot_ok;
 pub use rules::token_of;
@@ -124,10 +125,7 @@ pub fn fresh(algorithm: u8, n: u8) -> Started
     if BOUNDED < algorithm {
         return refused(refusal::ALGORITHM);
     }
-    if n < 1 {
-        return refused(refusal::PROCESS_COUNT);
-    }
-    if MOST_PROCESSES < n {
+    if !number_within(1, MOST_PROCESSES, n) {
         return refused(refusal::PROCESS_COUNT);
     }
     Started {

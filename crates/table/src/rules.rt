@@ -55,7 +55,8 @@ fn whole(number: u16) -> Value
     Value(number as i32)
 }
 
-fn number_within(low: u8, high: u8, x: u8) -> bool
+// Whether x is low to high.
+pub fn number_within(low: u8, high: u8, x: u8) -> bool
     ensures { λ b. ⌜ b ≡ within low high x ⌝ }
 {
     (low <= x) & (x <= high)

@@ -1,5 +1,6 @@
 -- `table::fresh` meets its contract: each `return` is the case of `freshOf` that the tests before it lead to.
-use borrow.Author.Tests.{le-leb, lt-leb}
+use mathlib.Core.Path.{sym, _∙_}
+use borrow.Author.Tests.{le-leb, lt-leb, not-true, not-false}
 use Rattle.table.specs.Fresh.{freshOf}
 use borrow.Author.Needs.{needs}
 use Rattle.table.proofs.fresh.Statement.{statement}
@@ -12,36 +13,32 @@ returns : tie.Need-returns
 unfolding freshOf
 returns c = rw (lt-leb _ _ (c .before .if1 .taken), c .refused .ensures)
 
+number-within-requires : tie.Need-number-within-requires
+number-within-requires c κs = search needs
+
 refused-requires-2 : tie.Need-refused-requires-2
 refused-requires-2 c κs = search needs
 
 returns-2 : tie.Need-returns-2
 unfolding freshOf
-returns-2 c = rw (le-leb _ _ (c .before .before .if1 .left), lt-leb _ _ (c .before .if2 .taken), c .refused2 .ensures)
-
-refused-requires-3 : tie.Need-refused-requires-3
-refused-requires-3 c κs = search needs
-
-returns-3 : tie.Need-returns-3
-unfolding freshOf
-returns-3 c =
+returns-2 c =
+    let b = c .before .before in
     rw (
-      le-leb _ _ (c .before .before .before .if1 .left),
-      le-leb _ _ (c .before .before .if2 .left),
-      lt-leb _ _ (c .before .if3 .taken),
-      c .refused3 .ensures,
+      le-leb _ _ (b .before .if1 .left),
+      sym (b .number-within .ensures) ∙ not-true _ (c .before .if2 .taken),
+      c .refused2 .ensures,
     )
 
 fresh-table-requires : tie.Need-fresh-table-requires
 fresh-table-requires c κs = search needs
 
-returns-4 : tie.Need-returns-4
+returns-3 : tie.Need-returns-3
 unfolding freshOf
-returns-4 c =
+returns-3 c =
+    let b = c .before .before in
     rw (
-      le-leb _ _ (c .before .before .before .if1 .left),
-      le-leb _ _ (c .before .before .if2 .left),
-      le-leb _ _ (c .before .if3 .left),
+      le-leb _ _ (b .before .if1 .left),
+      sym (b .number-within .ensures) ∙ not-false _ (c .before .if2 .left),
       c .fresh-table .ensures,
     )
 
@@ -51,9 +48,8 @@ fresh-spec =
     (tie.spec
     refused-requires
     returns
+    number-within-requires
     refused-requires-2
     returns-2
-    refused-requires-3
-    returns-3
     fresh-table-requires
-    returns-4)
+    returns-3)
