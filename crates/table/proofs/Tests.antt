@@ -1,12 +1,12 @@
 -- Laws of the tests: choices, conjunctions, a number within two others, and what holds of each of 1 to k.
-use Prim.Native.Nat.{ℕ, zero, suc, _+_, _≤_}
+use Prim.Native.Nat.{ℕ, zero, suc, _+_, _<_, _≤_}
 use mathlib.Core.Path.{_≡_, refl, sym, ap, _∙_}
-use mathlib.Core.Bool.{Bool, true, false, false≢true, cond, _&&_}
+use mathlib.Core.Bool.{Bool, true, false, false≢true, cond, not, _&&_}
 use mathlib.Core.Logic.{⊎-elim}
 use native.Mathlib.Omega.{arith}
 use native.Mathlib.Nat.{le-of-suc-le-suc, eq-or-lt-of-le}
 use native.Mathlib.Numerals.{add-one}
-use borrow.Author.Tests.{le-leb, leb-true}
+use borrow.Author.Tests.{le-leb, leb-true, not-true, not-false}
 use lib.Dec.{leb}
 use Rattle.table.specs.Tests.{within, every}
 
@@ -23,12 +23,10 @@ pub and-halves : (a b : Bool) → (a && b) ≡ true → (a ≡ true) × (b ≡ t
 and-halves true b e = (refl, e)
 and-halves false b e = absurd (false≢true e)
 
-fails-left : (a b : Bool) → a ≡ false → (a && b) ≡ false
-fails-left a b e = rw e
-
-fails-right : (a b : Bool) → b ≡ false → (a && b) ≡ false
-fails-right true b e = e
-fails-right false b e = refl
+-- a test that does not hold fails
+not-yes : (t : Bool) → (t ≡ true → ⊥) → t ≡ false
+not-yes true f = absurd (f refl)
+not-yes false f = refl
 
 -- a number within two others
 pub within-low : (a b x : ℕ) → within a b x ≡ true → a ≤ x
@@ -40,22 +38,7 @@ within-high a b x e = leb-true x b (and-halves (leb a x) (leb x b) e .1)
 pub within-yes : (a b x : ℕ) → a ≤ x → x ≤ b → within a b x ≡ true
 within-yes a b x l h = and-both (le-leb a x l) (le-leb x b h)
 
--- it holds of one number more
-pub every-more : (f : ℕ → Bool) (k : ℕ) → every f k ≡ true → f (k + 1) ≡ true → every f (k + 1) ≡ true
-unfolding every
-every-more f k e h = rw (add-one k) (and-both e (ap f (sym (add-one k)) ∙ h))
-
 module _ (f : ℕ → Bool) where
-  -- it fails where it fails of one number
-  pub every-fails : (j k : ℕ) → 1 ≤ j → j ≤ k → f j ≡ false → every f k ≡ false
-  unfolding every
-  every-fails j zero h l e = absurd (omega arith)
-  every-fails j (suc k) h l e =
-      ⊎-elim
-      (λ q. fails-right (every f k) (f (suc k)) (ap f (sym q) ∙ e))
-      (λ m. fails-left (every f k) (f (suc k)) (every-fails j k h (le-of-suc-le-suc m) e))
-      (eq-or-lt-of-le l)
-
   -- where it holds, it holds of each number
   pub every-at : (j k : ℕ) → 1 ≤ j → j ≤ k → every f k ≡ true → f j ≡ true
   unfolding every
@@ -72,3 +55,12 @@ module _ (f : ℕ → Bool) where
   every-all zero h = refl
   every-all (suc k) h =
       and-both (every-all k (λ j a b. h j a (omega arith))) (h (suc k) (omega arith) (omega arith))
+
+  -- A loop over the numbers, with the answer t of its test at k + 1: where t is yes it holds of one number more, and where t is no it fails.
+  pub every-more : (k : ℕ) {t : Bool} → every f k ≡ true → t ≡ f (k + 1) → not t ≡ false → every f (k + 1) ≡ true
+  unfolding every
+  every-more k {t} e h passed = rw (add-one k) (and-both e (ap f (sym (add-one k)) ∙ sym h ∙ not-false t passed))
+
+  pub every-stops : (k m : ℕ) {t : Bool} → k < m → t ≡ f (k + 1) → not t ≡ true → false ≡ every f m
+  every-stops k m {t} l h failed =
+      sym (not-yes (every f m) (λ all. false≢true (sym (not-true t failed) ∙ h ∙ every-at (k + 1) m (omega arith) (omega arith) all)))

@@ -1,12 +1,11 @@
 -- `cells_ok` meets its contract. The loop's invariant: each cell passed keeps its rule.
 use Prim.Native.Nat.{_≤_, _-_}
 use mathlib.Core.Bool.{true}
-use mathlib.Core.Path.{_≡_, refl, sym, _∙_}
-use borrow.Author.Tests.{not-true, not-false}
+use mathlib.Core.Path.{_≡_, refl, sym}
 use Rattle.table.specs.Numbers.{slots}
 use Rattle.table.specs.Tests.{every}
 use Rattle.table.specs.Rules.{cellRule, cellsOk}
-use Rattle.table.proofs.Tests.{every-more, every-fails}
+use Rattle.table.proofs.Tests.{every-more, every-stops}
 use borrow.Author.Needs.{needs}
 use native.Mathlib.Omega.{arith}
 use Rattle.table.proofs.rules.cells_ok.Statement.{statement}
@@ -27,7 +26,7 @@ cell-at-ok-requires c κs = search needs
 
 returns : tie.Need-returns Inv-loop μ-loop
 unfolding cellsOk
-returns c = sym (every-fails _ _ slots (omega arith) (omega arith) (sym (c .before .cell-at-ok .ensures) ∙ not-true _ (c .if1 .taken)))
+returns c = every-stops _ _ slots (omega arith) (c .before .cell-at-ok .ensures) (c .if1 .taken)
 
 add-k : tie.Need-add-k Inv-loop μ-loop
 add-k c = search needs
@@ -37,7 +36,7 @@ loop-less c = search needs
 
 loop-again : tie.Need-loop-again Inv-loop μ-loop
 loop-again c =
-    (omega arith, every-more _ _ (c .before .before .before .loop .inv .1) (sym (c .before .cell-at-ok .ensures) ∙ not-false _ (c .if1 .left)))
+    (omega arith, every-more _ _ (c .before .before .before .loop .inv .1) (c .before .cell-at-ok .ensures) (c .if1 .left))
 
 returns-2 : tie.Need-returns-2 Inv-loop μ-loop
 unfolding cellsOk
