@@ -64,8 +64,8 @@ next-other i j =
 module _ {algorithm n i : ℕ} {s : Seen} {r : Row} (some : 1 ≤ n) (most : n ≤ slots) (process : i ≤ n)
     (rules : RowRules (topOf algorithm n) n i r) (cells : length (r .cells) ≡ slots) (sees : Sees algorithm n i s r) where
   -- the rules of the row at a line that is known: there they compute
-  at-line : {k : ℕ} → r .line ≡ k → RowRules (topOf algorithm n) n i (withLine k r)
-  at-line e = subst (λ (k : ℕ). RowRules (topOf algorithm n) n i (withLine k r)) e rules
+  rules-at : {k : ℕ} → r .line ≡ k → RowRules (topOf algorithm n) n i (withLine k r)
+  rules-at e = subst (λ (k : ℕ). RowRules (topOf algorithm n) n i (withLine k r)) e rules
 
   line-ok : (k : ℕ) → within 1 10 k ≡ true → lineOk n i k ≡ true
   unfolding lineOk
@@ -81,7 +81,7 @@ module _ {algorithm n i : ℕ} {s : Seen} {r : Row} (some : 1 ≤ n) (most : n �
   line1-keeps : r .line ≡ 1 → Kept algorithm n i (line1 s r)
   unfolding indexOk choosingOk tokenOk pivotOk cellRule mayHold
   line1-keeps e =
-      let k = at-line e in
+      let k = rules-at e in
       moved cells
       (record {
         line = line-ok 2 refl;
@@ -96,17 +96,17 @@ module _ {algorithm n i : ℕ} {s : Seen} {r : Row} (some : 1 ≤ n) (most : n �
   module _ (e : r .line ≡ 2) where
     index-low : 1 ≤ r .index
     unfolding indexOk
-    index-low = within-low 1 n (r .index) (at-line e .index)
+    index-low = within-low 1 n (r .index) (rules-at e .index)
 
     index-high : r .index ≤ n
     unfolding indexOk
-    index-high = within-high 1 n (r .index) (at-line e .index)
+    index-high = within-high 1 n (r .index) (rules-at e .index)
 
     -- the token that is read suits its cell: the row's own is none, and another may be held
     read-ok : (may : Bool) → ((r .index ≡ i → ⊥) → may ≡ true) → Dec (r .index ≡ i) → cellOk (topOf algorithm n) may (s .token) ≡ true
     unfolding tokenOk cellOk
     read-ok may held (yes own) =
-        cell-none (limitOf algorithm n) may (s .token) (sees .own own ∙ is-none (r .token) (at-line e .token))
+        cell-none (limitOf algorithm n) may (s .token) (sees .own own ∙ is-none (r .token) (rules-at e .token))
     read-ok may held (no other) = rw (held other) (sees .token index-low index-high)
 
     -- a row that keeps the rules of the next line and index keeps them with the token that is read
@@ -138,7 +138,7 @@ module _ {algorithm n i : ℕ} {s : Seen} {r : Row} (some : 1 ≤ n) (most : n �
     line2-keeps : Kept algorithm n i (line2 n s r)
     unfolding line2 indexOk choosingOk tokenOk pivotOk cellRule mayHold
     line2-keeps =
-        let k = at-line e in
+        let k = rules-at e in
         let j = r .index in
         let held : (j ≡ i → ⊥) → (not (eqb j i) && leb j n) ≡ true = λ o. rw (ne-eqb j i o) (le-leb j n index-high) in
         rw e
@@ -166,14 +166,14 @@ module _ {algorithm n i : ℕ} {s : Seen} {r : Row} (some : 1 ≤ n) (most : n �
   line3-keeps : r .line ≡ 3 → Kept algorithm n i (line3 s r)
   unfolding indexOk choosingOk tokenOk pivotOk cellRule mayHold
   line3-keeps e =
-      let k = at-line e in
+      let k = rules-at e in
       moved cells
       (record { line = line-ok 4 refl; index = k .index; choosing = k .choosing; token = k .token; pivot = sees .x; cells = k .cells })
 
   line4-keeps : r .line ≡ 4 → Kept algorithm n i (line4 algorithm n s r)
   unfolding line4 indexOk choosingOk tokenOk pivotOk cellRule cellOk mayHold
   line4-keeps e =
-      let k = at-line e in
+      let k = rules-at e in
       let nonneg = and-halves (leZ (pos 0) (r .pivot)) (leZ (r .pivot) (topOf algorithm n)) (k .pivot) .0 in
       by-test (Kept algorithm n i) (isAboveLimit algorithm (nextToken algorithm n (r .pivot) (r .cells)))
       (λ _. still aboveTokenLimit)
@@ -209,14 +209,14 @@ module _ {algorithm n i : ℕ} {s : Seen} {r : Row} (some : 1 ≤ n) (most : n �
   line5-keeps : r .line ≡ 5 → Kept algorithm n i (line5 n i s r)
   unfolding line5 indexOk choosingOk tokenOk pivotOk cellRule mayHold
   line5-keeps e =
-      let k = at-line e in
+      let k = rules-at e in
       goes-on-keeps 0 (withChoosing 0 r) cells
       (record { line = line-ok 8 refl; index = refl; choosing = refl; token = k .token; pivot = k .pivot; cells = k .cells })
 
   line6-keeps : r .line ≡ 6 → Kept algorithm n i (line6 s r)
   unfolding line6 indexOk choosingOk tokenOk pivotOk cellRule mayHold
   line6-keeps e =
-      let k = at-line e in
+      let k = rules-at e in
       by-test (Kept algorithm n i) (eqb (s .choosing) 0)
       (λ _. moved cells
       (record { line = line-ok 7 refl; index = k .index; choosing = k .choosing; token = k .token; pivot = k .pivot; cells = k .cells }))
@@ -225,7 +225,7 @@ module _ {algorithm n i : ℕ} {s : Seen} {r : Row} (some : 1 ≤ n) (most : n �
   line7-keeps : r .line ≡ 7 → Kept algorithm n i (line7 algorithm n i s r)
   unfolding line7 indexOk choosingOk tokenOk pivotOk cellRule mayHold
   line7-keeps e =
-      let k = at-line e in
+      let k = rules-at e in
       by-test (Kept algorithm n i) (passes algorithm n i s r)
       (λ _. goes-on-keeps (r .index) r cells
       (record { line = line-ok 8 refl; index = refl; choosing = k .choosing; token = k .token; pivot = k .pivot; cells = k .cells }))
@@ -234,7 +234,7 @@ module _ {algorithm n i : ℕ} {s : Seen} {r : Row} (some : 1 ≤ n) (most : n �
   line8-keeps : r .line ≡ 8 → Kept algorithm n i (line8 r)
   unfolding indexOk choosingOk tokenOk pivotOk cellRule mayHold
   line8-keeps e =
-      let k = at-line e in
+      let k = rules-at e in
       record {
         rules = record {
           line = line-ok 9 refl;
@@ -251,14 +251,14 @@ module _ {algorithm n i : ℕ} {s : Seen} {r : Row} (some : 1 ≤ n) (most : n �
   line9-keeps : r .line ≡ 9 → Kept algorithm n i (line9 s r)
   unfolding indexOk choosingOk tokenOk pivotOk cellRule mayHold
   line9-keeps e =
-      let k = at-line e in
+      let k = rules-at e in
       moved cells
       (record { line = line-ok 10 refl; index = k .index; choosing = k .choosing; token = k .token; pivot = k .pivot; cells = k .cells })
 
   line10-keeps : r .line ≡ 10 → Kept algorithm n i (line10 s r)
   unfolding indexOk choosingOk tokenOk pivotOk cellRule mayHold
   line10-keeps e =
-      let k = at-line e in
+      let k = rules-at e in
       moved cells
       (record { line = line-ok 1 refl; index = k .index; choosing = k .choosing; token = refl; pivot = k .pivot; cells = k .cells })
 

@@ -34,14 +34,14 @@ pub rest-fits : {w : Width} (z : ℤ) (m : ℕ) → SFits w z → SFits w (remZ 
 rest-fits z m f = sfits-le (mag-rem z (pos m)) f
 
 -- z is the number k, which a byte holds
-pub record Is (z : ℤ) (k : ℕ) : Type 0 where
+pub record IsByte (z : ℤ) (k : ℕ) : Type 0 where
   pub nonneg : T (nonNeg z)
   pub value : natAbs z ≡ k
   pub sfits : SFits w64 z
   pub fits : Fits w8 (natAbs z)
 
-is : (z : ℤ) (k : ℕ) → k < 128 → T (nonNeg z) × (natAbs z ≡ k) → Is z k
-is (pos n) k h p =
+is-byte : (z : ℤ) (k : ℕ) → k < 256 → T (nonNeg z) × (natAbs z ≡ k) → IsByte z k
+is-byte (pos n) k h p =
     record {
       nonneg = tt;
       value = p .1;
@@ -51,7 +51,7 @@ is (pos n) k h p =
             omega (arith, p .1);
       };
     }
-is (negsuc n) k h p = absurd (p .0)
+is-byte (negsuc n) k h p = absurd (p .0)
 
 -- -r raised by m where r is not 0, and -0 kept
 raised : (r m : ℕ) → r < m → ltZ (negℤ (pos r)) (pos 0) ≡ true
@@ -80,12 +80,12 @@ kept-rest (pos a) m h e = (tt, refl)
 kept-rest (negsuc a) m h e = kept (suc a % m) m (mod-lt (suc a) h) e
 
 -- a signed remainder `rest` of z by m that tests as negative is raised by m; another is the remainder itself
-module _ (z : ℤ) (m : ℕ) (h : 0 < m) (l : m < 128) {rest modulus : ℤ} {t : Bool}
+module _ (z : ℤ) (m : ℕ) (h : 0 < m) (l : m < 256) {rest modulus : ℤ} {t : Bool}
     (em : modulus ≡ pos m) (er : rest ≡ remZ z modulus) (et : t ≡ ltZ rest (pos 0)) where
-  pub mended-negative : t ≡ true → Is (rest +ℤ modulus) (remainder z m)
+  pub mended-negative : t ≡ true → IsByte (rest +ℤ modulus) (remainder z m)
   mended-negative q =
-      rw (er, em) (is _ _ (omega (arith, remainder-below z m h)) (raised-rest z m h (rw (er, em) at (sym et ∙ q))))
+      rw (er, em) (is-byte _ _ (omega (arith, remainder-below z m h)) (raised-rest z m h (rw (er, em) at (sym et ∙ q))))
 
-  pub mended-other : t ≡ false → Is rest (remainder z m)
+  pub mended-other : t ≡ false → IsByte rest (remainder z m)
   mended-other q =
-      rw (er, em) (is _ _ (omega (arith, remainder-below z m h)) (kept-rest z m h (rw (er, em) at (sym et ∙ q))))
+      rw (er, em) (is-byte _ _ (omega (arith, remainder-below z m h)) (kept-rest z m h (rw (er, em) at (sym et ∙ q))))

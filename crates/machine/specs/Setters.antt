@@ -2,8 +2,7 @@
 use Prim.Native.Nat.{ℕ, _-_}
 use mathlib.Core.List.{List}
 use lib.IntN.{ℤ}
-use lib.ListN.{set, replicate}
-use Rattle.table.specs.Numbers.{slots, none}
+use lib.ListN.{set}
 use Rattle.table.specs.declared.Row.{Row}
 
 abbrev pub withLine : ℕ → Row → Row
@@ -27,7 +26,3 @@ withCells v r = record { line = r .line; index = r .index; choosing = r .choosin
 -- read cell j takes v; process numbers start at 1
 abbrev pub withCell : ℕ → ℤ → Row → Row
 withCell j v r = withCells (set (r .cells) (j - 1) v) r
-
--- read cells that have seen nothing
-abbrev pub allNone : List ℤ
-allNone = replicate slots none

@@ -9,10 +9,11 @@ use Rattle.table.specs.Tests.{within}
 use Rattle.table.specs.Numbers.{none, isNone, unbounded, tokenLimit}
 use Rattle.table.specs.Refusals.{noRefusal, notWellFormed, badProcessNumber, aboveTokenLimit}
 use Rattle.table.specs.Rules.{rowOf, wellFormed}
+use Rattle.table.specs.Fresh.{allNone}
 use Rattle.table.specs.declared.Row.{Row}
 use Rattle.table.specs.declared.Table.{Table}
 use Rattle.machine.specs.Tokens.{nextToken, goesBefore}
-use Rattle.machine.specs.Setters.{withLine, withIndex, withChoosing, withToken, withPivot, withCell, withCells, allNone}
+use Rattle.machine.specs.Setters.{withLine, withIndex, withChoosing, withToken, withPivot, withCell, withCells}
 use Rattle.machine.specs.declared.Seen.{Seen}
 use Rattle.machine.specs.declared.Advanced.{Advanced}
 use Rattle.machine.specs.declared.Stepped.{Stepped}
@@ -57,12 +58,16 @@ line3 s r = moves (s .x) (withLine 4 (withPivot (s .x) r))
 abbrev pub isAboveLimit : ℕ → ℤ → Bool
 isAboveLimit algorithm token = eqb algorithm unbounded && ltZ (pos tokenLimit) token
 
+-- "token takes" it; "pivot and read cells become -1; line 5"
+abbrev pub takesToken : ℤ → Row → Row
+takesToken token r = withLine 5 (withCells allNone (withPivot none (withToken token r)))
+
 -- 4: "token takes the next token (below); pivot and read cells become -1; line 5."
 unfoldable pub line4 : ℕ → ℕ → Seen → Row → Advanced
 line4 algorithm n s r =
     let token = nextToken algorithm n (r .pivot) (r .cells) in
     cond (isAboveLimit algorithm token) (refuses aboveTokenLimit s r)
-    (moves (s .x) (withLine 5 (withCells allNone (withPivot none (withToken token r)))))
+    (moves (s .x) (takesToken token r))
 
 -- 5: "choosing becomes 0. Index becomes the smallest number other than i and line 6; if n = 1, index 0 and line 8."
 unfoldable pub line5 : ℕ → ℕ → Seen → Row → Advanced

@@ -48,7 +48,7 @@ beforeB n i tokenI j tokenJ =
     let d = remainder (tokenJ -ℤ tokenI) (modulusOf n) in
     within 1 (n - 1) d || eqb d 0 && ltb i j
 
--- The one place where the machines differ: which of the two, by the algorithm.
+-- Which of the two, by the algorithm. Besides these the machines differ in T alone, and so in refusal 5.
 unfoldable pub nextToken : ℕ → ℕ → ℤ → List ℤ → ℤ
 nextToken algorithm n p cells = cond (eqb algorithm unbounded) (nextUb p cells) (nextB n p cells)
 

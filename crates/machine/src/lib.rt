@@ -10,12 +10,13 @@ ghost use Rattle.table.specs.Rules.{rowOf};
 ghost use Rattle.machine.specs.Ready.{Ready};
 ghost use Rattle.machine.specs.Step.{seenOf, refusedStep, takenOf, stepOf};
 use lines::advance;
-use lines::place_of;
+use numbers::place_of;
 use table::Row;
 use table::Table;
 use table::refusal;
 
-// What a step sees outside its own row: of the process at its index the choosing flag and the token, and X.
+// What a step sees outside its own row: of the process at its index the choosing flag and the token, and X. It is public, as `Advanced` is,
+// since the definition of a step is over it.
 pub struct Seen {
     pub choosing: u8,
     pub token: i32,
@@ -97,7 +98,7 @@ pub fn step(t: Table, process: u8) -> Stepped
         return refused(t, refusal::NOT_WELL_FORMED);
     }
     if !table::number_within(1, t.n, process) {
-        return refused(t, refusal::PROCESS_NUMBER);
+        return refused(t, refusal::BAD_PROCESS_NUMBER);
     }
     taken(t, process)
 }

@@ -1,16 +1,16 @@
 // One step of a process, line by line: its own row and what it sees of the others go in, and what comes of them goes out.
 ghost use mathlib.Core.Path.{_≡_};
-ghost use Prim.Native.Nat.{ℕ, _-_, _≤_};
-ghost use Rattle.table.specs.Numbers.{slots, none};
+ghost use Prim.Native.Nat.{ℕ, _≤_};
+ghost use Rattle.table.specs.Numbers.{slots};
 ghost use Rattle.machine.specs.Ready.{Count, Ready};
 ghost use Rattle.machine.specs.Tokens.{goesBefore};
-ghost use Rattle.machine.specs.Setters.{withCell, withCells, withPivot, withToken, withLine};
-ghost use Rattle.machine.specs.Setters.{allNone};
-ghost use Rattle.machine.specs.Step.{moves, refuses, nextOther, goesOn, passes};
+ghost use Rattle.machine.specs.Setters.{withCell};
+ghost use Rattle.machine.specs.Step.{moves, refuses, nextOther, goesOn, takesToken, passes};
 ghost use Rattle.machine.specs.Step.{line1, line2, line3, line4, line5, line6, line7, line8};
 ghost use Rattle.machine.specs.Step.{line9, line10, advanceOf};
 use crate::Advanced;
 use crate::Seen;
+use crate::numbers::place_of;
 use crate::tokens::BToken;
 use crate::tokens::UbToken;
 use table::NONE;
@@ -42,16 +42,6 @@ fn kept(stop: u8, s: Seen, r: Row) -> Advanced
         mark: 0,
         stop,
     }
-}
-
-// The place of a process's row or read cell: process numbers start at 1.
-pub(crate) fn place_of(process: u8) -> usize
-    ensures { λ k. ⌜ k ≡ process - 1 ⌝ }
-{
-    if process < 1 {
-        return 0;
-    }
-    (process - 1) as usize
 }
 
 // The next larger number other than i.
@@ -131,9 +121,9 @@ fn line_3(s: Seen, r: Row) -> Advanced
     moved(s, w)
 }
 
-// The token of either machine, as a row keeps it, and what was read for it cleared.
-fn with_token(token: Value, r: Row) -> Row
-    ensures { λ w. ⌜ w ≡ withLine 5 (withCells allNone (withPivot none (withToken (token .0) r))) ⌝ }
+// The row takes its token, of either machine, and gives up what was read for it.
+fn takes_token(token: Value, r: Row) -> Row
+    ensures { λ w. ⌜ w ≡ takesToken (token .0) r ⌝ }
 {
     let mut w = r;
     w.token = token.0;
@@ -156,10 +146,10 @@ fn line_4(algorithm: u8, n: u8, s: Seen, r: Row) -> Advanced
         if UbToken::is_above_limit(next) {
             return kept(refusal::ABOVE_TOKEN_LIMIT, s, r);
         }
-        return moved(s, with_token(UbToken::of_next(next).value(), r));
+        return moved(s, takes_token(UbToken::of_next(next).value(), r));
     }
     let next = BToken::next(n, BToken::of(pivot), cells);
-    moved(s, with_token(next.value(), r))
+    moved(s, takes_token(next.value(), r))
 }
 
 // 5: choosing becomes 0; then on to the smallest number other than i.

@@ -1,6 +1,6 @@
-// Numbers on the way to a token: sums that cannot wrap, the mended remainder, the largest of some.
+// Numbers: sums that cannot wrap, the mended remainder, the largest of some, and the place of a process's number.
 ghost use mathlib.Core.Path.{_≡_};
-ghost use Prim.Native.Nat.{_<_};
+ghost use Prim.Native.Nat.{_-_, _<_};
 ghost use lib.IntN.{pos, natAbs, _+ℤ_, _-ℤ_};
 ghost use lib.Signed.{ltZ, remZ, quotZ, nonNeg};
 ghost use lib.Dec.{T};
@@ -65,7 +65,7 @@ impl Whole {
 
     // The remainder by m, mended to lie in 0 to m - 1.
     pub(crate) fn remainder(self, m: u8) -> u8
-        requires { ⌜ (0 < m) × (m < 128) ⌝ }
+        requires { ⌜ 0 < m ⌝ }
         ensures { λ k. ⌜ k ≡ remainder (self .0) m ⌝ }
     {
         let modulus = Whole::of_number(m);
@@ -77,11 +77,14 @@ impl Whole {
     }
 }
 
-// A number that is not below zero.
-pub(crate) fn number(k: u8) -> Value
-    ensures { λ v. ⌜ v .0 ≡ pos k ⌝ }
+// The place of a process's row or read cell: process numbers start at 1.
+pub(crate) fn place_of(process: u8) -> usize
+    ensures { λ k. ⌜ k ≡ process - 1 ⌝ }
 {
-    Value(k as i32)
+    if process < 1 {
+        return 0;
+    }
+    (process - 1) as usize
 }
 
 fn larger(v: Value, w: Value) -> Value

@@ -11,15 +11,14 @@ ghost use Rattle.machine.specs.Tokens.{remainder, largest, shifted, shif
 ghost use Rattle.machine.specs.Tokens.{nextB, beforeUb, beforeB};
 use crate::numbers::Whole;
 use crate::numbers::largest;
-use crate::numbers::number;
 use crate::numbers::value_at;
 use table::NONE;
 use table::SLOTS;
 use table::TOKEN_LIMIT;
 use table::Value;
 
-// A token of UB-Bakery, and a token of B-Bakery, which is one modulo 2n - 1. Source 002 takes the one to the other by its mapping f; here
-// neither can be compared with the other or stored as the other.
+// A token of UB-Bakery, and a token of B-Bakery, which is one modulo 2n - 1. Source 002 takes the one to the other by its mapping f; here no
+// function takes one of each.
 pub(crate) struct UbToken(i32);
 
 pub(crate) struct BToken(i32);
@@ -118,7 +117,7 @@ impl BToken {
         if self.value().is_none() {
             return Value(NONE);
         }
-        number(self.shifted(n, pivot))
+        Value::of_number(self.shifted(n, pivot) as u16)
     }
 
     // The shifted read cells, as a second array.
@@ -141,7 +140,7 @@ impl BToken {
         requires { ⌜ Count n ⌝ }
         ensures { λ v. ⌜ v .0 ≡ nextB n (pivot .0) cells ⌝ }
     {
-        let own = number(pivot.shifted(n, pivot));
+        let own = Value::of_number(pivot.shifted(n, pivot) as u16);
         let most = largest(own, BToken::shifted_cells(n, pivot, cells));
         BToken::unshifted(n, pivot, most)
     }
@@ -153,7 +152,8 @@ impl BToken {
     {
         let sum = Whole::of(most).plus(pivot.whole());
         let raised = sum.minus(Whole::of_number(n)).plus(Whole::of_number(2));
-        BToken::of(number(raised.remainder(modulus(n))))
+        let next = raised.remainder(modulus(n));
+        BToken::of(Value::of_number(next as u16))
     }
 
     // Whether process i, which holds this token, goes before process j.

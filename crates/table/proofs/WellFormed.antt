@@ -4,14 +4,15 @@ use mathlib.Core.Path.{_≡_, refl, sym, ap, _∙_}
 use mathlib.Core.Bool.{Bool, true, not, false≢true}
 use mathlib.Core.List.{List}
 use native.Mathlib.Omega.{arith}
-use borrow.Author.Tests.{le-leb, lt-leb, leb-true, eqb-true}
+use borrow.Author.Tests.{le-leb, lt-leb, eqb-true}
 use lib.Dec.{leb, eqb}
 use lib.IntN.{ℤ, pos, negsuc}
 use lib.ListN.{length, getD, replicate, length-replicate, getD-replicate}
 use lib.Seq.{ext-getD}
 use Rattle.table.specs.Tests.{within, withinℤ}
-use Rattle.table.specs.Numbers.{slots, none, isNone, unbounded, bounded, limitOf, topOf}
-use Rattle.table.specs.Rules.{rowOf, cellOf, noRow, xOk, lineOk, indexOk, choosingOk, tokenOk, pivotOk}
+use Rattle.table.specs.Numbers.{slots, none, isNone, unbounded, limitOf, topOf}
+use Rattle.table.specs.Rules.{algorithmOk, countOk, xOk}
+use Rattle.table.specs.Rules.{rowOf, cellOf, noRow, lineOk, indexOk, choosingOk, tokenOk, pivotOk}
 use Rattle.table.specs.Rules.{mayHold, cellOk, cellRule, cellsOk, rowOk, rowRule, rowsOk, wellFormed}
 use Rattle.table.specs.Fresh.{freshRow, freshTable, freshOf}
 use Rattle.table.specs.Sized.{Sized}
@@ -31,13 +32,13 @@ pub record RowRules (top : ℤ) (n i : ℕ) (r : Row) : Type 0 where
 
 -- the rules of a table, each by its name
 pub record TableRules (t : Table) : Type 0 where
-  pub algorithm : t .algorithm ≤ bounded
+  pub algorithm : algorithmOk (t .algorithm) ≡ true
   pub some : 1 ≤ t .n
   pub most : t .n ≤ slots
   pub x : xOk (topOf (t .algorithm) (t .n)) (t .x) ≡ true
   pub rows : (i : ℕ) → 1 ≤ i → i ≤ slots → RowRules (topOf (t .algorithm) (t .n)) (t .n) i (rowOf t i)
 
-pub row-rules : (top : ℤ) (n i : ℕ) (r : Row) → rowOk top n i r ≡ true → RowRules top n i r
+row-rules : (top : ℤ) (n i : ℕ) (r : Row) → rowOk top n i r ≡ true → RowRules top n i r
 unfolding rowOk cellsOk
 row-rules top n i r e =
     let h5 = and-halves _ (cellsOk top n i r) e in
@@ -54,7 +55,7 @@ row-rules top n i r e =
       cells = λ j l h. every-at (cellRule top n i r) j slots l h (h5 .1);
     }
 
-pub row-ok : (top : ℤ) (n i : ℕ) (r : Row) → RowRules top n i r → rowOk top n i r ≡ true
+row-ok : (top : ℤ) (n i : ℕ) (r : Row) → RowRules top n i r → rowOk top n i r ≡ true
 unfolding rowOk cellsOk
 row-ok top n i r k =
     and-both (and-both (and-both (and-both (and-both (k .line) (k .index)) (k .choosing)) (k .token)) (k .pivot))
@@ -66,9 +67,9 @@ table-rules t e =
     let top = topOf (t .algorithm) (t .n) in
     let h3 = and-halves _ (rowsOk top t) e in
     let h2 = and-halves _ (xOk top (t .x)) (h3 .0) in
-    let h1 = and-halves (leb (t .algorithm) bounded) (within 1 slots (t .n)) (h2 .0) in
+    let h1 = and-halves (algorithmOk (t .algorithm)) (countOk (t .n)) (h2 .0) in
     record {
-      algorithm = leb-true _ _ (h1 .0);
+      algorithm = h1 .0;
       some = within-low 1 slots (t .n) (h1 .1);
       most = within-high 1 slots (t .n) (h1 .1);
       x = h2 .1;
@@ -78,7 +79,7 @@ table-rules t e =
 pub well-formed : (t : Table) → TableRules t → wellFormed t ≡ true
 unfolding wellFormed rowsOk rowRule
 well-formed t k =
-    and-both (and-both (and-both (le-leb _ _ (k .algorithm)) (within-yes 1 slots (t .n) (k .some) (k .most))) (k .x))
+    and-both (and-both (and-both (k .algorithm) (within-yes 1 slots (t .n) (k .some) (k .most))) (k .x))
     (every-all (rowRule (topOf (t .algorithm) (t .n)) t) slots (λ i l h. row-ok _ _ i _ (k .rows i l h)))
 
 -- what isNone says
@@ -150,13 +151,13 @@ fresh-row-rules top n i =
       cells = λ j l h. ap isNone (getD-replicate slots (j - 1) none (pos 0) (omega arith));
     }
 
-pub fresh-well-formed : (algorithm n : ℕ) → algorithm ≤ bounded → 1 ≤ n → n ≤ slots → wellFormed (freshTable algorithm n) ≡ true
-fresh-well-formed algorithm n a l h =
+pub fresh-well-formed : (algorithm n : ℕ) → algorithmOk algorithm ≡ true → countOk n ≡ true → wellFormed (freshTable algorithm n) ≡ true
+fresh-well-formed algorithm n a c =
     well-formed (freshTable algorithm n)
     (record {
       algorithm = a;
-      some = l;
-      most = h;
+      some = within-low 1 slots n c;
+      most = within-high 1 slots n c;
       x = rw (le-leb 0 (limitOf algorithm n) (omega arith));
       rows = λ i p q. rw (getD-replicate slots (i - 1) freshRow noRow (omega arith)) (fresh-row-rules _ n i);
     })
@@ -172,9 +173,9 @@ fresh-sized algorithm n =
 pub freshOf-well-formed : (algorithm n : ℕ) → wellFormed (freshOf algorithm n .table) ≡ true
 unfolding freshOf
 freshOf-well-formed algorithm n =
-    let shown = fresh-well-formed unbounded 1 (omega arith) (omega arith) (omega arith) in
-    by-test (λ (s : Started). wellFormed (s .table) ≡ true) (leb algorithm bounded)
-    (λ p. by-test (λ (s : Started). wellFormed (s .table) ≡ true) (within 1 slots n)
-    (λ q. fresh-well-formed algorithm n (leb-true _ _ p) (within-low 1 slots n q) (within-high 1 slots n q))
+    let shown = fresh-well-formed unbounded 1 refl refl in
+    by-test (λ (s : Started). wellFormed (s .table) ≡ true) (algorithmOk algorithm)
+    (λ p. by-test (λ (s : Started). wellFormed (s .table) ≡ true) (countOk n)
+    (λ q. fresh-well-formed algorithm n p q)
     (λ _. shown))
     (λ _. shown)

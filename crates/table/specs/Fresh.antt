@@ -1,19 +1,23 @@
 -- Document 01, "The table": a fresh table; and the answer of `fresh`.
 use Prim.Native.Nat.{ℕ}
 use mathlib.Core.Bool.{cond}
-use lib.Dec.{leb}
-use lib.IntN.{pos}
+use mathlib.Core.List.{List}
+use lib.IntN.{ℤ, pos}
 use lib.ListN.{replicate}
-use Rattle.table.specs.Tests.{within}
-use Rattle.table.specs.Numbers.{slots, none, unbounded, bounded}
+use Rattle.table.specs.Numbers.{slots, none, unbounded}
 use Rattle.table.specs.Refusals.{noRefusal, badAlgorithm, badProcessCount}
+use Rattle.table.specs.Rules.{algorithmOk, countOk}
 use Rattle.table.specs.declared.Row.{Row}
 use Rattle.table.specs.declared.Table.{Table}
 use Rattle.table.specs.declared.Started.{Started}
 
+-- read cells that have seen nothing
+abbrev pub allNone : List ℤ
+allNone = replicate slots none
+
 -- "every row at line 1, index 0, choosing 0, token -1, pivot -1, cells -1"
 abbrev pub freshRow : Row
-freshRow = record { line = 1; index = 0; choosing = 0; token = none; pivot = none; cells = replicate slots none }
+freshRow = record { line = 1; index = 0; choosing = 0; token = none; pivot = none; cells = allNone }
 
 -- "A fresh table has X = 0" and every row fresh
 abbrev pub freshTable : ℕ → ℕ → Table
@@ -26,8 +30,8 @@ refusedFresh stop = record { table = freshTable unbounded 1; stop = stop }
 -- "Fresh: 1, 2."
 unfoldable pub freshOf : ℕ → ℕ → Started
 freshOf algorithm n =
-    cond (leb algorithm bounded)
-    (cond (within 1 slots n)
+    cond (algorithmOk algorithm)
+    (cond (countOk n)
     (record { table = freshTable algorithm n; stop = noRefusal })
     (refusedFresh badProcessCount))
     (refusedFresh badAlgorithm)

@@ -30,7 +30,7 @@ tokenLimit = 1000000
 unfoldable pub limitOf : ℕ → ℕ → ℕ
 limitOf algorithm n = cond (eqb algorithm unbounded) tokenLimit (2 * n - 2)
 
--- T among the numbers that it bounds, which may be -1
+-- T as a whole number, to compare with numbers that may be -1
 abbrev pub topOf : ℕ → ℕ → ℤ
 topOf algorithm n = pos (limitOf algorithm n)
 

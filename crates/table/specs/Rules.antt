@@ -6,7 +6,7 @@ use lib.Dec.{leb, ltb, eqb}
 use lib.IntN.{ℤ, pos}
 use lib.ListN.{getD}
 use Rattle.table.specs.Tests.{within, withinℤ, every}
-use Rattle.table.specs.Numbers.{slots, none, isNone, bounded, topOf}
+use Rattle.table.specs.Numbers.{slots, none, isNone, unbounded, bounded, topOf}
 use Rattle.table.specs.declared.Row.{Row}
 use Rattle.table.specs.declared.Table.{Table}
 
@@ -21,13 +21,22 @@ rowOf t i = getD (t .rows) (i - 1) noRow
 abbrev pub cellOf : Row → ℕ → ℤ
 cellOf r j = getD (r .cells) (j - 1) (pos 0)
 
+-- "algorithm is 0 or 1"
+abbrev pub algorithmOk : ℕ → Bool
+algorithmOk algorithm = eqb algorithm unbounded || eqb algorithm bounded
+
+-- "n is 1 to 16"
+abbrev pub countOk : ℕ → Bool
+countOk n = within 1 slots n
+
 -- "X is 0 to T"
 abbrev pub xOk : ℤ → ℤ → Bool
 xOk top x = withinℤ (pos 0) top x
 
 -- The rules of row i of a table for n processes; top is T.
 
--- "in rows 1 to n, line is 1 to 10"; "rows above n are as in a fresh table": at line 1, where the other rules are those of a fresh row
+-- "in rows 1 to n, line is 1 to 10"; "rows above n are as in a fresh table": at line 1 the other rules leave nothing but a fresh row, as the
+-- law `above-fresh` says
 unfoldable pub lineOk : ℕ → ℕ → ℕ → Bool
 lineOk n i line = cond (leb i n) (within 1 10 line) (eqb line 1)
 
@@ -83,8 +92,8 @@ rowRule top t i = rowOk top (t .n) i (rowOf t i)
 unfoldable pub rowsOk : ℤ → Table → Bool
 rowsOk top t = every (rowRule top t) slots
 
--- "algorithm is 0 or 1, n is 1 to 16, X is 0 to T", and the rules of every row
+-- a table is well formed when every rule holds
 unfoldable pub wellFormed : Table → Bool
 wellFormed t =
     let top = topOf (t .algorithm) (t .n) in
-    leb (t .algorithm) bounded && within 1 slots (t .n) && xOk top (t .x) && rowsOk top t
+    algorithmOk (t .algorithm) && countOk (t .n) && xOk top (t .x) && rowsOk top t

@@ -2,8 +2,10 @@
 mod rules;
 
 pub use rules::Value;
+pub use rules::algorithm_ok;
 pub use rules::cell_ok;
 pub use rules::choosing_ok;
+pub use rules::count_ok;
 pub use rules::index_ok;
 pub use rules::limit_of;
 pub use rules::line_ok;
@@ -42,13 +44,13 @@ pub const SCHEDULE_LIMIT: usize = 60000;
 pub mod refusal {
     pub const NO_REFUSAL: u8 = 0;
 
-    pub const ALGORITHM: u8 = 1;
+    pub const BAD_ALGORITHM: u8 = 1;
 
-    pub const PROCESS_COUNT: u8 = 2;
+    pub const BAD_PROCESS_COUNT: u8 = 2;
 
     pub const NOT_WELL_FORMED: u8 = 3;
 
-    pub const PROCESS_NUMBER: u8 = 4;
+    pub const BAD_PROCESS_NUMBER: u8 = 4;
 
     pub const ABOVE_TOKEN_LIMIT: u8 = 5;
 
@@ -60,11 +62,11 @@ pub mod refusal {
 
     pub const FORM_TOO_SHORT: u8 = 9;
 
-    pub const KIND: u8 = 10;
+    pub const WRONG_KIND: u8 = 10;
 
     pub const FORM_TOO_LONG: u8 = 11;
 
-    pub const FIELD: u8 = 12;
+    pub const BAD_FIELD: u8 = 12;
 }
 
 pub struct Row {
@@ -122,11 +124,11 @@ fn refused(stop: u8) -> Started
 pub fn fresh(algorithm: u8, n: u8) -> Started
     ensures { λ s. ⌜ s ≡ freshOf algorithm n ⌝ }
 {
-    if BOUNDED < algorithm {
-        return refused(refusal::ALGORITHM);
+    if !algorithm_ok(algorithm) {
+        return refused(refusal::BAD_ALGORITHM);
     }
-    if !number_within(1, MOST_PROCESSES, n) {
-        return refused(refusal::PROCESS_COUNT);
+    if !count_ok(n) {
+        return refused(refusal::BAD_PROCESS_COUNT);
     }
     Started {
         table: fresh_table(algorithm, n),

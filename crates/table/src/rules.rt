@@ -1,4 +1,4 @@
-// When a table is well formed: a rule for each field, in the order of document 01's list.
+// When a table is well formed: a rule for each field, in the order of document 01's list, which the definitions quote.
 ghost use mathlib.Core.Path.{_≡_};
 ghost use Prim.Native.Nat.{_+_, _<_};
 ghost use lib.IntN.{pos};
@@ -6,7 +6,7 @@ ghost use lib.ListN.{getD};
 ghost use lib.Signed.{ltZ};
 ghost use Rattle.table.specs.Tests.{within, withinℤ, eqℤ};
 ghost use Rattle.table.specs.Numbers.{slots, isNone, topOf};
-ghost use Rattle.table.specs.Rules.{xOk, lineOk, indexOk, choosingOk, tokenOk, pivotOk};
+ghost use Rattle.table.specs.Rules.{algorithmOk, countOk, xOk, lineOk, indexOk, choosingOk, tokenOk, pivotOk};
 ghost use Rattle.table.specs.Rules.{mayHold, cellOk, cellRule, cellsOk, rowOk, rowRule, rowsOk};
 ghost use Rattle.table.specs.Rules.{wellFormed};
 use crate::BOUNDED;
@@ -23,6 +23,13 @@ use crate::UNBOUNDED;
 pub struct Value(pub i32);
 
 impl Value {
+    // A number that is not below zero.
+    pub fn of_number(number: u16) -> Value
+        ensures { λ v. ⌜ v .0 ≡ pos number ⌝ }
+    {
+        Value(number as i32)
+    }
+
     pub fn equals(self, other: Value) -> bool
         ensures { λ b. ⌜ b ≡ eqℤ (self .0) (other .0) ⌝ }
     {
@@ -48,13 +55,6 @@ impl Value {
     }
 }
 
-// A number that is not below zero.
-fn whole(number: u16) -> Value
-    ensures { λ v. ⌜ v .0 ≡ pos number ⌝ }
-{
-    Value(number as i32)
-}
-
 // Whether x is low to high.
 pub fn number_within(low: u8, high: u8, x: u8) -> bool
     ensures { λ b. ⌜ b ≡ within low high x ⌝ }
@@ -73,7 +73,19 @@ pub fn limit_of(algorithm: u8, n: u8) -> Value
         return Value(0);
     }
     let others = (n - 1) as u16;
-    whole(2 * others)
+    Value::of_number(2 * others)
+}
+
+pub fn algorithm_ok(algorithm: u8) -> bool
+    ensures { λ b. ⌜ b ≡ algorithmOk algorithm ⌝ }
+{
+    (algorithm == UNBOUNDED) | (algorithm == BOUNDED)
+}
+
+pub fn count_ok(n: u8) -> bool
+    ensures { λ b. ⌜ b ≡ countOk n ⌝ }
+{
+    number_within(1, MOST_PROCESSES, n)
 }
 
 pub fn x_ok(top: Value, x: Value) -> bool
@@ -228,8 +240,5 @@ pub fn well_formed(t: Table) -> bool
     ensures { λ b. ⌜ b ≡ wellFormed t ⌝ }
 {
     let top = limit_of(t.algorithm, t.n);
-    (t.algorithm <= BOUNDED)
-        & number_within(1, MOST_PROCESSES, t.n)
-        & x_ok(top, x_of(t))
-        & rows_ok(top, t)
+    algorithm_ok(t.algorithm) & count_ok(t.n) & x_ok(top, x_of(t)) & rows_ok(top, t)
 }

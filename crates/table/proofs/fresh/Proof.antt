@@ -1,20 +1,23 @@
--- `table::fresh` meets its contract: each `return` is the case of `freshOf` that the tests before it lead to.
+-- `fresh` meets its contract: each `return` is the case of `freshOf` that the tests before it lead to.
 use mathlib.Core.Path.{sym, _∙_}
-use borrow.Author.Tests.{le-leb, lt-leb, not-true, not-false}
+use borrow.Author.Tests.{not-true, not-false}
 use Rattle.table.specs.Fresh.{freshOf}
 use borrow.Author.Needs.{needs}
 use Rattle.table.proofs.fresh.Statement.{statement}
 use Rattle.table.proofs.fresh.Tie as tie
+
+algorithm-ok-requires : tie.Need-algorithm-ok-requires
+algorithm-ok-requires c κs = search needs
 
 refused-requires : tie.Need-refused-requires
 refused-requires c κs = search needs
 
 returns : tie.Need-returns
 unfolding freshOf
-returns c = rw (lt-leb _ _ (c .before .if1 .taken), c .refused .ensures)
+returns c = rw (sym (c .before .before .algorithm-ok .ensures) ∙ not-true _ (c .before .if1 .taken), c .refused .ensures)
 
-number-within-requires : tie.Need-number-within-requires
-number-within-requires c κs = search needs
+count-ok-requires : tie.Need-count-ok-requires
+count-ok-requires c κs = search needs
 
 refused-requires-2 : tie.Need-refused-requires-2
 refused-requires-2 c κs = search needs
@@ -24,8 +27,8 @@ unfolding freshOf
 returns-2 c =
     let b = c .before .before in
     rw (
-      le-leb _ _ (b .before .if1 .left),
-      sym (b .number-within .ensures) ∙ not-true _ (c .before .if2 .taken),
+      sym (b .before .before .algorithm-ok .ensures) ∙ not-false _ (b .before .if1 .left),
+      sym (b .count-ok .ensures) ∙ not-true _ (c .before .if2 .taken),
       c .refused2 .ensures,
     )
 
@@ -37,8 +40,8 @@ unfolding freshOf
 returns-3 c =
     let b = c .before .before in
     rw (
-      le-leb _ _ (b .before .if1 .left),
-      sym (b .number-within .ensures) ∙ not-false _ (c .before .if2 .left),
+      sym (b .before .before .algorithm-ok .ensures) ∙ not-false _ (b .before .if1 .left),
+      sym (b .count-ok .ensures) ∙ not-false _ (c .before .if2 .left),
       c .fresh-table .ensures,
     )
 
@@ -46,9 +49,10 @@ pub fresh-spec : {M : Type 1} → statement M
 fresh-spec =
     tie.close
     (tie.spec
+    algorithm-ok-requires
     refused-requires
     returns
-    number-within-requires
+    count-ok-requires
     refused-requires-2
     returns-2
     fresh-table-requires

@@ -61,8 +61,8 @@ of-next-requires c κs =
 value-requires : tie.Need-value-requires
 value-requires c κs = search needs
 
-with-token-requires : tie.Need-with-token-requires
-with-token-requires c κs = search needs
+takes-token-requires : tie.Need-takes-token-requires
+takes-token-requires c κs = search needs
 
 moved-requires : tie.Need-moved-requires
 moved-requires c κs = search needs
@@ -76,7 +76,7 @@ returns-2 c =
       eq-eqb _ _ (b .before .before .before .before .before .if1 .taken),
       sym (b .before .is-above-limit .ensures) ∙ b .if2 .left,
       c .moved .ensures,
-      c .before .with-token .ensures,
+      c .before .takes-token .ensures,
       c .before .before .value .ensures,
       c .before .before .before .of-next .ensures,
     )
@@ -90,8 +90,8 @@ next-requires-2 c κs = search needs
 value-requires-2 : tie.Need-value-requires-2
 value-requires-2 c κs = search needs
 
-with-token-requires-2 : tie.Need-with-token-requires-2
-with-token-requires-2 c κs = search needs
+takes-token-requires-2 : tie.Need-takes-token-requires-2
+takes-token-requires-2 c κs = search needs
 
 moved-requires-2 : tie.Need-moved-requires-2
 moved-requires-2 c κs = search needs
@@ -106,7 +106,7 @@ returns-3 c =
       next-bounded (a .n) (a .r .pivot) (a .r .cells) (d .if1 .left),
       ne-eqb _ _ (d .if1 .left),
       c .moved2 .ensures,
-      c .before .with-token2 .ensures,
+      c .before .takes-token2 .ensures,
       c .before .before .value2 .ensures,
       b .next2 .ensures,
       b .before .of2 .ensures,
@@ -126,12 +126,12 @@ line-4-spec =
     returns
     of-next-requires
     value-requires
-    with-token-requires
+    takes-token-requires
     moved-requires
     returns-2
     of-requires-2
     next-requires-2
     value-requires-2
-    with-token-requires-2
+    takes-token-requires-2
     moved-requires-2
     returns-3)

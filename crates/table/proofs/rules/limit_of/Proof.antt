@@ -19,16 +19,16 @@ returns-2 c = rw (ne-eqb _ _ (c .before .if1 .left)) (ap pos (omega arith))
 cast-others : tie.Need-cast-others
 cast-others c = search needs
 
-mul-whole : tie.Need-mul-whole
-mul-whole c = search needs
+mul-of-number : tie.Need-mul-of-number
+mul-of-number c = search needs
 
-whole-requires : tie.Need-whole-requires
-whole-requires c κs = search needs
+of-number-requires : tie.Need-of-number-requires
+of-number-requires c κs = search needs
 
 returns-3 : tie.Need-returns-3
 unfolding limitOf
-returns-3 c = rw (ne-eqb _ _ (c .before .before .if1 .left)) (c .whole .ensures ∙ ap pos (omega arith))
+returns-3 c = rw (ne-eqb _ _ (c .before .before .if1 .left)) (c .of-number .ensures ∙ ap pos (omega arith))
 
 pub limit-of-spec : {M : Type 1} → statement M
 limit-of-spec =
-    tie.close (tie.spec returns returns-2 cast-others mul-whole whole-requires returns-3)
+    tie.close (tie.spec returns returns-2 cast-others mul-of-number of-number-requires returns-3)

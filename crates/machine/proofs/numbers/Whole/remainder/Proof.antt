@@ -4,7 +4,7 @@ use lib.IntN.{natAbs, _+ℤ_}
 use mir.Syntax.{w64}
 use mir.Val.{SFits}
 use Rattle.machine.specs.Tokens.{remainder}
-use Rattle.machine.proofs.Remainder.{Is, mended-negative, mended-other, quotient-fits, rest-fits}
+use Rattle.machine.proofs.Remainder.{IsByte, mended-negative, mended-other, quotient-fits, rest-fits}
 use native.Mathlib.Omega.{arith}
 use borrow.Author.Needs.{needs}
 use Rattle.machine.proofs.numbers.Whole.remainder.Statement.{statement}
@@ -15,7 +15,7 @@ abbrev RaisedIs : tie.Then1 → Type 0
 RaisedIs c =
     let b = c .before .before in
     let a = b .before .before .args in
-    Is (b .signed-remainder .result .0 +ℤ b .before .of-number .result .0) (remainder (a .self .0) (a .m))
+    IsByte (b .signed-remainder .result .0 +ℤ b .before .of-number .result .0) (remainder (a .self .0) (a .m))
 
 raised : (c : tie.Then1) → RaisedIs c
 raised c =
@@ -28,7 +28,7 @@ abbrev KeptIs : tie.Else1 → Type 0
 KeptIs c =
     let b = c .before .before in
     let a = b .before .before .args in
-    Is (b .signed-remainder .result .0) (remainder (a .self .0) (a .m))
+    IsByte (b .signed-remainder .result .0) (remainder (a .self .0) (a .m))
 
 kept : (c : tie.Else1) → KeptIs c
 kept c =

@@ -7,8 +7,11 @@ use Rattle.machine.proofs.tokens.BToken.next.Tie as tie
 shifted-requires : tie.Need-shifted-requires
 shifted-requires c κs = search needs
 
-number-requires : tie.Need-number-requires
-number-requires c κs = search needs
+cast-of-number : tie.Need-cast-of-number
+cast-of-number c = search needs
+
+of-number-requires : tie.Need-of-number-requires
+of-number-requires c κs = search needs
 
 shifted-cells-requires : tie.Need-shifted-cells-requires
 shifted-cells-requires c κs = search needs
@@ -27,7 +30,7 @@ returns c =
       c .unshifted .ensures,
       c .before .largest .ensures,
       b .shifted-cells .ensures,
-      b .before .number .ensures,
+      b .before .of-number .ensures,
       b .before .before .shifted .ensures,
     )
 
@@ -36,7 +39,8 @@ next-spec =
     tie.close
     (tie.spec
     shifted-requires
-    number-requires
+    cast-of-number
+    of-number-requires
     shifted-cells-requires
     largest-requires
     unshifted-requires

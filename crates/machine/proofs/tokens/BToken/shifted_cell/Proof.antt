@@ -18,8 +18,11 @@ returns c = rw (sym (c .before .before .value .ensures), sym (c .before .is-none
 shifted-requires : tie.Need-shifted-requires
 shifted-requires c κs = search needs
 
-number-requires : tie.Need-number-requires
-number-requires c κs = search needs
+cast-of-number : tie.Need-cast-of-number
+cast-of-number c = search needs
+
+of-number-requires : tie.Need-of-number-requires
+of-number-requires c κs = search needs
 
 returns-2 : tie.Need-returns-2
 unfolding shiftedCell
@@ -28,7 +31,7 @@ returns-2 c =
     rw (
       sym (b .before .value .ensures),
       sym (b .is-none .ensures) ∙ c .before .before .if1 .left,
-      c .number .ensures,
+      c .of-number .ensures,
       c .before .shifted .ensures,
       b .before .value .ensures,
     )
@@ -36,4 +39,11 @@ returns-2 c =
 pub shifted-cell-spec : {M : Type 1} → statement M
 shifted-cell-spec =
     tie.close
-    (tie.spec value-requires is-none-requires returns shifted-requires number-requires returns-2)
+    (tie.spec
+    value-requires
+    is-none-requires
+    returns
+    shifted-requires
+    cast-of-number
+    of-number-requires
+    returns-2)

@@ -66,8 +66,11 @@ modulus-requires c κs = search needs
 remainder-requires : tie.Need-remainder-requires
 remainder-requires c κs = search needs
 
-number-requires : tie.Need-number-requires
-number-requires c κs = search needs
+cast-of-number : tie.Need-cast-of-number
+cast-of-number c = search needs
+
+of-number-requires-3 : tie.Need-of-number-requires-3
+of-number-requires-3 c κs = search needs
 
 of-requires-2 : tie.Need-of-requires-2
 of-requires-2 c κs = search needs
@@ -78,7 +81,7 @@ returns c =
     let d = b .before .before .before in
     rw (
       c .of2 .ensures,
-      c .before .number .ensures,
+      c .before .of-number3 .ensures,
       c .before .before .remainder .ensures,
       c .before .before .before .modulus .ensures,
       b .plus2 .ensures,
@@ -103,6 +106,7 @@ unshifted-spec =
     plus-requires-2
     modulus-requires
     remainder-requires
-    number-requires
+    cast-of-number
+    of-number-requires-3
     of-requires-2
     returns)
