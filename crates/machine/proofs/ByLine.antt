@@ -11,6 +11,7 @@ use Rattle.machine.specs.Step.{waits, line1, line2, line3, line4, line5,
 use Rattle.machine.specs.declared.Seen.{Seen}
 use Rattle.machine.specs.declared.Advanced.{Advanced}
 
+-- at a line that is known
 pub at-line : (algorithm n i : ℕ) (s : Seen) (r : Row) {k : ℕ} → r .line ≡ k
     → advanceOf algorithm n i s r ≡ lineStep k algorithm n i s r
 unfolding advanceOf

@@ -1,7 +1,7 @@
 -- The processor's remainder, which has the sign of the dividend, mended to lie in 0 to m - 1, is document 01's remainder.
 use Prim.Native.Nat.{ℕ, suc, zero, _-_, _%_, _/_, _<_, _≤_, zero-le}
-use mathlib.Core.Path.{_≡_, refl, sym, ap, _∙_, subst}
-use mathlib.Core.Bool.{Bool, true, false, cond}
+use mathlib.Core.Path.{_≡_, refl, sym, ap, _∙_}
+use mathlib.Core.Bool.{Bool, true, false, true≢false, false≢true}
 use native.Mathlib.Omega.{arith}
 use native.Mathlib.Nat.{mod-lt, mod-eq-of-lt, mod-self, div-le-self, le-of-suc-le-suc}
 use borrow.Author.Tests.{ltb-true, le-ltb}
@@ -13,6 +13,7 @@ use mir.Val.{SFits, Fits}
 use mir.ValLaws.{sfits-le}
 use Rattle.machine.specs.Tokens.{remainder}
 
+-- "remainders are 0 to M - 1"
 pub remainder-below : (z : ℤ) (m : ℕ) → 0 < m → remainder z m < m
 unfolding remainder
 remainder-below (pos a) m h = mod-lt a h
@@ -42,21 +43,14 @@ pub record IsByte (z : ℤ) (k : ℕ) : Type 0 where
 
 is-byte : (z : ℤ) (k : ℕ) → k < 256 → T (nonNeg z) × (natAbs z ≡ k) → IsByte z k
 is-byte (pos n) k h p =
-    record {
-      nonneg = tt;
-      value = p .1;
-      sfits = record { sfits = omega (arith, p .1) };
-      fits = record {
-        fits =
-            omega (arith, p .1);
-      };
-    }
+    let small : n < 256 = omega (arith, p .1) in
+    record { nonneg = tt; value = p .1; sfits = record { sfits = omega arith }; fits = record { fits = omega arith } }
 is-byte (negsuc n) k h p = absurd (p .0)
 
 -- -r raised by m where r is not 0, and -0 kept
 raised : (r m : ℕ) → r < m → ltZ (negℤ (pos r)) (pos 0) ≡ true
     → T (nonNeg (negℤ (pos r) +ℤ pos m)) × (natAbs (negℤ (pos r) +ℤ pos m) ≡ (m - r) % m)
-raised zero m h e = absurd (subst (λ (t : Bool). T (cond t false true)) e tt)
+raised zero m h e = absurd (false≢true e)
 raised (suc r) m h e = rw (le-ltb m (suc r) (omega arith)) (tt, sym (mod-eq-of-lt (omega arith)))
 
 kept : (r m : ℕ) → r < m → ltZ (negℤ (pos r)) (pos 0) ≡ false
@@ -65,7 +59,7 @@ kept zero m h e = (tt, sym (ap (λ (k : ℕ). k % m) (less-zero m) ∙ mod-self 
   where
     less-zero : (m : ℕ) → m - 0 ≡ m
     less-zero m = omega arith
-kept (suc r) m h e = absurd (subst T e tt)
+kept (suc r) m h e = absurd (true≢false e)
 
 raised-rest : (z : ℤ) (m : ℕ) → 0 < m → ltZ (remZ z (pos m)) (pos 0) ≡ true
     → T (nonNeg (remZ z (pos m) +ℤ pos m)) × (natAbs (remZ z (pos m) +ℤ pos m) ≡ remainder z m)

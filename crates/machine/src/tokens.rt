@@ -50,6 +50,7 @@ impl UbToken {
         Whole::of_number(1).plus(Whole::of(self.value()))
     }
 
+    // What refusal 5 is given for, and the token where it is not.
     pub(crate) fn is_above_limit(next: Whole) -> bool
         ensures { λ b. ⌜ b ≡ ltZ (pos tokenLimit) (next .0) ⌝ }
     {

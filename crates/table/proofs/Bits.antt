@@ -10,10 +10,12 @@ use mir.Syntax.{w32}
 use mir.Val.{SFits, ofZ}
 use Rattle.table.specs.Tests.{eqℤ}
 
+-- two equations that follow from each other are tested alike
 same-test : (a b x y : ℕ) → Dec (a ≡ b) → (a ≡ b → x ≡ y) → (x ≡ y → a ≡ b) → eqb x y ≡ eqb a b
 same-test a b x y (yes p) f g = eq-eqb x y (f p) ∙ sym (eq-eqb a b p)
 same-test a b x y (no n) f g = ne-eqb x y (λ q. n (g q)) ∙ sym (ne-eqb a b n)
 
+-- a number from 0 on never has the bits of one below 0, and two below 0 with the same bits are the same
 apart : (a b : ℕ) → a < 2 ^ 31 → b < 2 ^ 31 → a ≡ 2 ^ 32 - suc b → ⊥
 apart a b f g q = omega arith
 

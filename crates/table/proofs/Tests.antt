@@ -23,6 +23,13 @@ pub and-halves : (a b : Bool) → (a && b) ≡ true → (a ≡ true) × (b ≡ t
 and-halves true b e = (refl, e)
 and-halves false b e = absurd (false≢true e)
 
+-- What an `if !f(..)` tells of f's definition: t is the answer of f, and u what it is proved to be.
+pub passed : {t u : Bool} → t ≡ u → not t ≡ false → u ≡ true
+passed {t} e left = sym e ∙ not-false t left
+
+pub failed : {t u : Bool} → t ≡ u → not t ≡ true → u ≡ false
+failed {t} e taken = sym e ∙ not-true t taken
+
 -- a test that does not hold fails
 not-yes : (t : Bool) → (t ≡ true → ⊥) → t ≡ false
 not-yes true f = absurd (f refl)
@@ -59,8 +66,8 @@ module _ (f : ℕ → Bool) where
   -- A loop over the numbers, with the answer t of its test at k + 1: where t is yes it holds of one number more, and where t is no it fails.
   pub every-more : (k : ℕ) {t : Bool} → every f k ≡ true → t ≡ f (k + 1) → not t ≡ false → every f (k + 1) ≡ true
   unfolding every
-  every-more k {t} e h passed = rw (add-one k) (and-both e (ap f (sym (add-one k)) ∙ sym h ∙ not-false t passed))
+  every-more k e h left = rw (add-one k) (and-both e (ap f (sym (add-one k)) ∙ passed h left))
 
   pub every-stops : (k m : ℕ) {t : Bool} → k < m → t ≡ f (k + 1) → not t ≡ true → false ≡ every f m
-  every-stops k m {t} l h failed =
-      sym (not-yes (every f m) (λ all. false≢true (sym (not-true t failed) ∙ h ∙ every-at (k + 1) m (omega arith) (omega arith) all)))
+  every-stops k m l h taken =
+      sym (not-yes (every f m) (λ all. false≢true (sym (failed h taken) ∙ every-at (k + 1) m (omega arith) (omega arith) all)))

@@ -2,19 +2,18 @@
 use Prim.Native.Nat.{ℕ, suc, _-_, _<_, _≤_}
 use mathlib.Core.Path.{_≡_, refl, sym, ap, _∙_}
 use mathlib.Core.Bool.{Bool, true, not, false≢true}
-use mathlib.Core.List.{List}
 use native.Mathlib.Omega.{arith}
 use borrow.Author.Tests.{le-leb, lt-leb, eqb-true}
 use lib.Dec.{leb, eqb}
 use lib.IntN.{ℤ, pos, negsuc}
-use lib.ListN.{length, getD, replicate, length-replicate, getD-replicate}
+use lib.ListN.{length, getD, length-replicate, getD-replicate}
 use lib.Seq.{ext-getD}
 use Rattle.table.specs.Tests.{within, withinℤ}
 use Rattle.table.specs.Numbers.{slots, none, isNone, unbounded, limitOf, topOf}
 use Rattle.table.specs.Rules.{algorithmOk, countOk, xOk}
 use Rattle.table.specs.Rules.{rowOf, cellOf, noRow, lineOk, indexOk, choosingOk, tokenOk, pivotOk}
 use Rattle.table.specs.Rules.{mayHold, cellOk, cellRule, cellsOk, rowOk, rowRule, rowsOk, wellFormed}
-use Rattle.table.specs.Fresh.{freshRow, freshTable, freshOf}
+use Rattle.table.specs.Fresh.{allNone, freshRow, freshTable, freshOf}
 use Rattle.table.specs.Sized.{Sized}
 use Rattle.table.specs.declared.Row.{Row}
 use Rattle.table.specs.declared.Table.{Table}
@@ -108,14 +107,15 @@ token-range limit line v =
     from-zero (negsuc a) e = absurd (false≢true e)
 
 -- no cell of a row at line 1 holds a token
-cells-none : (top : ℤ) (n i : ℕ) (r : Row) → RowRules top n i r → r .line ≡ 1 → (j : ℕ) → 1 ≤ j → j ≤ slots → cellOf r j ≡ none
+cells-none : (top : ℤ) (n i : ℕ) (r : Row) → RowRules top n i r → r .line ≡ 1 → length (r .cells) ≡ slots → r .cells ≡ allNone
 unfolding cellRule cellOk mayHold
-cells-none top n i r k e j l h = is-none _ (rw e at (k .cells j l h))
-
-all-none : (l : List ℤ) (k : ℕ) → length l ≡ k → ((j : ℕ) → j < k → getD l j (pos 0) ≡ none) → l ≡ replicate k none
-all-none l k m h =
-    ext-getD (pos 0) l (replicate k none) (m ∙ sym (length-replicate k none))
-    (λ j b. let c : j < k = omega arith in h j c ∙ sym (getD-replicate k j none (pos 0) c))
+cells-none top n i r k e m = ext-getD (pos 0) (r .cells) allNone (m ∙ sym (length-replicate slots none)) (λ j h. each j (omega arith))
+  where
+    each : (j : ℕ) → j < slots → getD (r .cells) j (pos 0) ≡ getD allNone j (pos 0)
+    each j h =
+        let off : suc j - 1 ≡ j = omega arith in
+        let cell : cellOf r (suc j) ≡ none = is-none _ (rw e at (k .cells (suc j) (omega arith) h)) in
+        (rw off at cell) ∙ sym (getD-replicate slots j none (pos 0) h)
 
 -- a row at line 1 that keeps the rules is a fresh row
 line-one-fresh : (top : ℤ) (n i : ℕ) (r : Row) → RowRules top n i r → r .line ≡ 1 → length (r .cells) ≡ slots → r ≡ freshRow
@@ -125,10 +125,7 @@ line-one-fresh top n i r k e m =
     let choosing : r .choosing ≡ 0 = eqb-true _ _ (rw e at (k .choosing)) in
     let token : r .token ≡ none = is-none _ (rw e at (k .token)) in
     let pivot : r .pivot ≡ none = is-none _ (rw e at (k .pivot)) in
-    let cells =
-    all-none (r .cells) slots m
-    (λ j h. let off : suc j - 1 ≡ j = omega arith in rw off at (cells-none top n i r k e (suc j) (omega arith) h))
-    in
+    let cells = cells-none top n i r k e m in
     λ at. record { line = e at; index = index at; choosing = choosing at; token = token at; pivot = pivot at; cells = cells at }
 
 -- "rows above n are as in a fresh table"

@@ -1,6 +1,5 @@
 -- `step` meets its contract: each `return` is the case of `stepOf` that the tests before it lead to.
-use mathlib.Core.Path.{sym, _∙_}
-use borrow.Author.Tests.{not-true, not-false}
+use Rattle.table.proofs.Tests.{passed, failed}
 use Rattle.machine.specs.Step.{stepOf}
 use Rattle.machine.proofs.Ready.{ready}
 use borrow.Author.Needs.{needs}
@@ -15,7 +14,7 @@ refused-requires c κs = search needs
 
 returns : tie.Need-returns
 unfolding stepOf
-returns c = rw (sym (c .before .before .well-formed .ensures) ∙ not-true _ (c .before .if1 .taken), c .refused .ensures)
+returns c = rw (failed (c .before .before .well-formed .ensures) (c .before .if1 .taken), c .refused .ensures)
 
 number-within-requires : tie.Need-number-within-requires
 number-within-requires c κs = search needs
@@ -28,8 +27,8 @@ unfolding stepOf
 returns-2 c =
     let b = c .before .before in
     rw (
-      sym (b .before .before .well-formed .ensures) ∙ not-false _ (b .before .if1 .left),
-      sym (b .number-within .ensures) ∙ not-true _ (c .before .if2 .taken),
+      passed (b .before .before .well-formed .ensures) (b .before .if1 .left),
+      failed (b .number-within .ensures) (c .before .if2 .taken),
       c .refused2 .ensures,
     )
 
@@ -37,16 +36,16 @@ taken-requires : tie.Need-taken-requires
 taken-requires c κs =
     let b = c .before in
     ready _ _
-    (sym (b .before .before .well-formed .ensures) ∙ not-false _ (b .before .if1 .left))
-    (sym (b .number-within .ensures) ∙ not-false _ (c .if2 .left))
+    (passed (b .before .before .well-formed .ensures) (b .before .if1 .left))
+    (passed (b .number-within .ensures) (c .if2 .left))
 
 returns-3 : tie.Need-returns-3
 unfolding stepOf
 returns-3 c =
     let b = c .before .before in
     rw (
-      sym (b .before .before .well-formed .ensures) ∙ not-false _ (b .before .if1 .left),
-      sym (b .number-within .ensures) ∙ not-false _ (c .before .if2 .left),
+      passed (b .before .before .well-formed .ensures) (b .before .if1 .left),
+      passed (b .number-within .ensures) (c .before .if2 .left),
       c .taken .ensures,
     )
 

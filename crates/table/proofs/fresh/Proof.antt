@@ -1,7 +1,6 @@
 -- `fresh` meets its contract: each `return` is the case of `freshOf` that the tests before it lead to.
-use mathlib.Core.Path.{sym, _∙_}
-use borrow.Author.Tests.{not-true, not-false}
 use Rattle.table.specs.Fresh.{freshOf}
+use Rattle.table.proofs.Tests.{passed, failed}
 use borrow.Author.Needs.{needs}
 use Rattle.table.proofs.fresh.Statement.{statement}
 use Rattle.table.proofs.fresh.Tie as tie
@@ -14,7 +13,7 @@ refused-requires c κs = search needs
 
 returns : tie.Need-returns
 unfolding freshOf
-returns c = rw (sym (c .before .before .algorithm-ok .ensures) ∙ not-true _ (c .before .if1 .taken), c .refused .ensures)
+returns c = rw (failed (c .before .before .algorithm-ok .ensures) (c .before .if1 .taken), c .refused .ensures)
 
 count-ok-requires : tie.Need-count-ok-requires
 count-ok-requires c κs = search needs
@@ -27,8 +26,8 @@ unfolding freshOf
 returns-2 c =
     let b = c .before .before in
     rw (
-      sym (b .before .before .algorithm-ok .ensures) ∙ not-false _ (b .before .if1 .left),
-      sym (b .count-ok .ensures) ∙ not-true _ (c .before .if2 .taken),
+      passed (b .before .before .algorithm-ok .ensures) (b .before .if1 .left),
+      failed (b .count-ok .ensures) (c .before .if2 .taken),
       c .refused2 .ensures,
     )
 
@@ -40,8 +39,8 @@ unfolding freshOf
 returns-3 c =
     let b = c .before .before in
     rw (
-      sym (b .before .before .algorithm-ok .ensures) ∙ not-false _ (b .before .if1 .left),
-      sym (b .count-ok .ensures) ∙ not-false _ (c .before .if2 .left),
+      passed (b .before .before .algorithm-ok .ensures) (b .before .if1 .left),
+      passed (b .count-ok .ensures) (c .before .if2 .left),
       c .fresh-table .ensures,
     )
 
