@@ -7,3 +7,6 @@ pub mod Keeps
 pub mod Marks
 pub mod Ready
 pub mod Steps
+pub mod Counts
+pub mod Courses
+pub mod Going

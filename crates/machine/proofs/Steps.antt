@@ -1,7 +1,7 @@
 -- The laws of a step of a table, which the layers above cite.
 use Prim.Native.Nat.{ℕ, _-_, _≤_}
 use mathlib.Core.Path.{_≡_, refl, sym, ap, _∙_}
-use mathlib.Core.Bool.{true}
+use mathlib.Core.Bool.{true, false}
 use mathlib.Core.Logic.{_⊎_, inl, inr, ⊎-elim}
 use native.Mathlib.Omega.{arith}
 use native.Mathlib.Decide.{ℕ-discrete}
@@ -34,6 +34,16 @@ by-case t i P refused taken =
     (λ b. taken w (within-low 1 (t .n) i b) (within-high 1 (t .n) i b))
     (λ _. refused badProcessNumber (omega arith)))
     (λ _. refused notWellFormed (omega arith))
+
+-- The two where the table is well formed.
+module _ (t : Table) (i : ℕ) (w : wellFormed t ≡ true) where
+  pub step-taken : within 1 (t .n) i ≡ true → stepOf t i ≡ takenOf t i
+  unfolding stepOf
+  step-taken p = rw (w, p)
+
+  pub step-bad-number : within 1 (t .n) i ≡ false → stepOf t i ≡ refusedStep t badProcessNumber
+  unfolding stepOf
+  step-bad-number p = rw (w, p)
 
 -- the step of process i, over its own row
 abbrev advanced : Table → ℕ → Advanced
@@ -123,6 +133,9 @@ module _ (t : Table) (i : ℕ) where
   step-mark =
       by-case t i (λ (u : Stepped). (u .mark ≡ 0) ⊎ (u .mark ≡ 1)) (λ _ _. inl refl)
       (λ _ _ _. ⊎-elim (λ s. inl (s .mark)) (λ m. inr (m .mark)) marked)
+
+  pub step-mark-most : stepOf t i .mark ≤ 1
+  step-mark-most = ⊎-elim (λ e. omega (arith, e)) (λ e. omega (arith, e)) step-mark
 
   -- "1 if the table changed and 0 if not"
   pub step-unmarked : stepOf t i .mark ≡ 0 → stepOf t i .table ≡ t

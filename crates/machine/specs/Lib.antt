@@ -2,3 +2,4 @@ pub mod Tokens
 pub mod Setters
 pub mod Step
 pub mod Ready
+pub mod Run

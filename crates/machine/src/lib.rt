@@ -1,14 +1,16 @@
 // The two machines of document 01: the unbounded (UB-Bakery) and the bounded (B-Bakery), one step at a time.
 mod lines;
 mod numbers;
+mod schedule;
 mod tokens;
 
+pub use schedule::run;
 ghost use mathlib.Core.Path.{_≡_};
 ghost use Prim.Native.Nat.{_≤_};
 ghost use Rattle.table.specs.Numbers.{slots};
 ghost use Rattle.table.specs.Rules.{rowOf};
 ghost use Rattle.machine.specs.Ready.{Ready};
-ghost use Rattle.machine.specs.Step.{seenOf, refusedStep, takenOf, stepOf};
+ghost use Rattle.machine.specs.Step.{seenFrom, refusedStep, takenOf, stepOf};
 use lines::advance;
 use numbers::place_of;
 use table::Row;
@@ -38,21 +40,21 @@ pub struct Stepped {
     pub stop: u8,
 }
 
-// Row i.
-fn row_of(t: Table, i: u8) -> Row
-    requires { ⌜ i ≤ slots ⌝ }
-    ensures { λ r. ⌜ r ≡ rowOf t i ⌝ }
-{
-    let k = place_of(i);
-    t.rows[k]
+// The answer of `run`.
+pub struct Ran {
+    pub table: Table,
+    pub moved: usize,
+    pub waited: usize,
+    pub entries: usize,
+    pub waiting: usize,
+    pub place: usize,
+    pub stop: u8,
 }
 
-// What the step of row r sees.
-fn seen_by(t: Table, r: Row) -> Seen
-    requires { ⌜ r .index ≤ slots ⌝ }
-    ensures { λ s. ⌜ s ≡ seenOf t r ⌝ }
+// What a step sees of the table and of the row at its index.
+fn seen_of(t: Table, other: Row) -> Seen
+    ensures { λ s. ⌜ s ≡ seenFrom t other ⌝ }
 {
-    let other = row_of(t, r.index);
     Seen {
         choosing: other.choosing,
         token: other.token,
@@ -76,9 +78,11 @@ fn taken(t: Table, i: u8) -> Stepped
     requires { ⌜ (i ≤ slots) × Ready (t .n) (rowOf t i) ⌝ }
     ensures { λ s. ⌜ s ≡ takenOf t i ⌝ }
 {
-    let r = row_of(t, i);
-    let a = advance(t.algorithm, t.n, i, seen_by(t, r), r);
     let k = place_of(i);
+    let r = t.rows[k];
+    let j = place_of(r.index);
+    let other = t.rows[j];
+    let a = advance(t.algorithm, t.n, i, seen_of(t, other), r);
     let row = a.row;
     let mut after = t;
     after.rows[k] = row;

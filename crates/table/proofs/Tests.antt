@@ -15,6 +15,11 @@ pub by-test : {A : Type 0} (P : A → Type 0) (t : Bool) {x y : A} → (t ≡ tr
 by-test P true f g = f refl
 by-test P false f g = g refl
 
+-- a function of a choice is the choice of its values
+pub of-choice : {A B : Type 0} (f : A → B) (t : Bool) (x y : A) → f (cond t x y) ≡ cond t (f x) (f y)
+of-choice f true x y = refl
+of-choice f false x y = refl
+
 -- a conjunction, and the halves of one that holds
 pub and-both : {a b : Bool} → a ≡ true → b ≡ true → (a && b) ≡ true
 and-both e h = rw (e, h)

@@ -1,0 +1,77 @@
+-- The laws of a course: a schedule after another, and one byte more.
+use Prim.Native.Nat.{ℕ, suc, _+_, _<_}
+use mathlib.Core.Path.{_≡_, refl, sym, ap, _∙_}
+use mathlib.Core.Bool.{Bool, true, false, cond}
+use mathlib.Core.List.{List, [], _∷_, _++_, append-assoc, append-nil}
+use native.Mathlib.Numerals.{add-one}
+use borrow.Author.Tests.{eq-eqb, ne-eqb}
+use lib.Dec.{eqb}
+use lib.ListN.{length, getD, take, drop}
+use lib.Seq.{take-suc, split-at}
+use Rattle.table.specs.Refusals.{noRefusal}
+use Rattle.table.specs.declared.Table.{Table}
+use Rattle.table.proofs.Tests.{by-test, of-choice}
+use Rattle.machine.specs.Step.{stepOf}
+use Rattle.machine.specs.Run.{Turn, Course, turnOf, standsAt, followed, courseOf, movedIn, waitedIn}
+use Rattle.machine.proofs.Steps.{step-mark}
+use Rattle.machine.proofs.Counts.{counts-none, counts-first}
+
+-- A course goes on with a later schedule from its last table, unless a byte was refused.
+abbrev pub goesOnWith : List ℕ → Course → Course
+goesOnWith later c = cond (eqb (c .stop) noRefusal) (followed (c .turns) (courseOf (c .table) later)) c
+
+-- turns before a course do not change how it goes on
+followed-on : (us : List Turn) (later : List ℕ) (c : Course) → followed us (goesOnWith later c) ≡ goesOnWith later (followed us c)
+followed-on us later c =
+    let on = courseOf (c .table) later in
+    let both : followed us (followed (c .turns) on) ≡ followed (us ++ c .turns) on =
+    λ at. record { turns = sym (append-assoc us (c .turns) (on .turns)) at; table = on .table; stop = on .stop } in
+    of-choice (followed us) (eqb (c .stop) noRefusal) (followed (c .turns) on) c ∙ rw both
+
+-- A schedule followed by another: the one course, and then the other.
+pub course-append : (t : Table) (s later : List ℕ) → courseOf t (s ++ later) ≡ goesOnWith later (courseOf t s)
+unfolding courseOf
+course-append t [] later = refl
+course-append t (i ∷ s) later =
+    by-bool (eqb (stepOf t i .stop) noRefusal) refl (course-append (stepOf t i .table) s later)
+  where
+    one : List Turn
+    one = turnOf t i ∷ []
+
+    next : Table
+    next = stepOf t i .table
+
+    stopped : Course
+    stopped = standsAt t (stepOf t i .stop)
+
+    by-bool : (b : Bool) → eqb (stepOf t i .stop) noRefusal ≡ b → courseOf next (s ++ later) ≡ goesOnWith later (courseOf next s)
+        → cond b (followed one (courseOf next (s ++ later))) stopped ≡ goesOnWith later (cond b (followed one (courseOf next s)) stopped)
+    by-bool true e onward = ap (followed one) onward ∙ followed-on one later (courseOf next s)
+    by-bool false e onward = rw e
+
+-- A byte more of a schedule, where none before it is refused and they lead from t to now: it is taken, or it stops the course.
+module _ (t : Table) (s : List ℕ) (k : ℕ) (us : List Turn) (now : Table) (inside : k < length s)
+    (so-far : courseOf t (take k s) ≡ record { turns = us; table = now; stop = noRefusal }) where
+  pub byte-taken : stepOf now (getD s k 0) .stop ≡ noRefusal
+      → courseOf t (take (k + 1) s)
+      ≡ record { turns = us ++ (turnOf now (getD s k 0) ∷ []); table = stepOf now (getD s k 0) .table; stop = noRefusal }
+  unfolding courseOf
+  byte-taken e =
+      let more : take (k + 1) s ≡ take k s ++ (getD s k 0 ∷ []) = rw (add-one k) (take-suc s k 0 inside) in
+      ap (courseOf t) more ∙ course-append t (take k s) (getD s k 0 ∷ []) ∙ rw (so-far, eq-eqb _ noRefusal e)
+
+  pub byte-refused : (stepOf now (getD s k 0) .stop ≡ noRefusal → ⊥)
+      → courseOf t s ≡ record { turns = us; table = now; stop = stepOf now (getD s k 0) .stop }
+  unfolding courseOf
+  byte-refused e =
+      ap (courseOf t) (split-at s k 0 inside) ∙ course-append t (take k s) (getD s k 0 ∷ drop (suc k) s)
+      ∙ rw (so-far, ne-eqb _ noRefusal e, append-nil us)
+
+-- "moved plus waited is the number of schedule bytes taken"
+pub bytes-taken : (t : Table) (s : List ℕ) → movedIn (courseOf t s .turns) + waitedIn (courseOf t s .turns) ≡ length (courseOf t s .turns)
+unfolding courseOf
+bytes-taken t [] = counts-none
+bytes-taken t (i ∷ s) =
+    by-test (λ (c : Course). movedIn (c .turns) + waitedIn (c .turns) ≡ length (c .turns)) (eqb (stepOf t i .stop) noRefusal)
+    (λ _. counts-first (turnOf t i) (courseOf (stepOf t i .table) s .turns) (step-mark t i) (bytes-taken (stepOf t i .table) s))
+    (λ _. counts-none)
