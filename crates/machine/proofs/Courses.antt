@@ -49,6 +49,10 @@ course-append t (i ∷ s) later =
     by-bool true e onward = ap (followed one) onward ∙ followed-on one later (courseOf next s)
     by-bool false e onward = rw e
 
+pub course-goes-on : (t : Table) (s later : List ℕ) → courseOf t s .stop ≡ noRefusal
+    → courseOf t (s ++ later) ≡ followed (courseOf t s .turns) (courseOf (courseOf t s .table) later)
+course-goes-on t s later going = course-append t s later ∙ rw (eq-eqb _ noRefusal going)
+
 -- A byte more of a schedule, where none before it is refused and they lead from t to now: it is taken, or it stops the course.
 module _ (t : Table) (s : List ℕ) (k : ℕ) (us : List Turn) (now : Table) (inside : k < length s)
     (so-far : courseOf t (take k s) ≡ record { turns = us; table = now; stop = noRefusal }) where

@@ -10,3 +10,4 @@ pub mod Steps
 pub mod Counts
 pub mod Courses
 pub mod Going
+pub mod Runs

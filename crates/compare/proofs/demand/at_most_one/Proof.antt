@@ -1,0 +1,58 @@
+-- `at_most_one` meets its contract. The loop's invariant: the count is that of the rows passed.
+use Prim.Native.Nat.{_≤_, _-_}
+use mathlib.Core.Path.{_≡_, refl}
+use native.Mathlib.Numerals.{add-one}
+use Rattle.table.specs.Numbers.{slots}
+use Rattle.compare.specs.Demand.{criticals, atMostOne}
+use borrow.Author.Needs.{needs}
+use native.Mathlib.Omega.{arith}
+use Rattle.compare.proofs.demand.at_most_one.Statement.{statement}
+use Rattle.compare.proofs.demand.at_most_one.Tie as tie
+
+abbrev Inv-loop : tie.InvT-loop
+Inv-loop t count₀ k₀ count k = (k ≤ slots) × (count ≤ k) × (count ≡ criticals t k)
+
+abbrev μ-loop : tie.MeasureT-loop
+μ-loop t count₀ k₀ count k = slots - k
+
+loop-holds : tie.Need-loop-holds Inv-loop μ-loop
+unfolding criticals
+loop-holds c = (omega arith, omega arith, refl)
+
+critical-at-requires : tie.Need-critical-at-requires Inv-loop μ-loop
+critical-at-requires c κs = search needs
+
+add-count : tie.Need-add-count Inv-loop μ-loop
+add-count c = search needs
+
+add-k : tie.Need-add-k Inv-loop μ-loop
+add-k c = search needs
+
+loop-less : tie.Need-loop-less Inv-loop μ-loop
+loop-less c = search needs
+
+loop-again : tie.Need-loop-again Inv-loop μ-loop
+unfolding criticals
+loop-again c =
+    let k = c .before .before .loop .k in
+    (omega arith, omega arith, rw (c .critical-at .ensures .0, add-one k, c .before .before .loop .inv .2))
+
+returns : tie.Need-returns Inv-loop μ-loop
+unfolding atMostOne
+returns c =
+    let e : c .before .loop .k ≡ slots = omega arith in
+    rw (c .before .loop .inv .2, e)
+
+pub at-most-one-spec : {M : Type 1} → statement M
+at-most-one-spec =
+    tie.close
+    (tie.spec
+    Inv-loop
+    μ-loop
+    loop-holds
+    critical-at-requires
+    add-count
+    add-k
+    loop-less
+    loop-again
+    returns)

@@ -1,0 +1,57 @@
+-- `cells_agree` meets its contract. The loop's invariant: each cell passed agrees.
+use Prim.Native.Nat.{_≤_, _-_}
+use mathlib.Core.Bool.{true}
+use mathlib.Core.Path.{_≡_, refl, sym}
+use Rattle.table.specs.Numbers.{slots}
+use Rattle.table.specs.Tests.{every}
+use Rattle.table.proofs.Tests.{every-more, every-stops}
+use Rattle.compare.specs.Demand.{cellAgrees}
+use borrow.Author.Needs.{needs}
+use native.Mathlib.Omega.{arith}
+use Rattle.compare.proofs.demand.cells_agree.Statement.{statement}
+use Rattle.compare.proofs.demand.cells_agree.Tie as tie
+
+abbrev Inv-loop : tie.InvT-loop
+Inv-loop m unbounded bounded k₀ k = (k ≤ slots) × (every (cellAgrees m unbounded bounded) k ≡ true)
+
+abbrev μ-loop : tie.MeasureT-loop
+μ-loop m unbounded bounded k₀ k = slots - k
+
+loop-holds : tie.Need-loop-holds Inv-loop μ-loop
+unfolding every
+loop-holds c = (omega arith, refl)
+
+cell-agrees-requires : tie.Need-cell-agrees-requires Inv-loop μ-loop
+cell-agrees-requires c κs = search needs
+
+returns : tie.Need-returns Inv-loop μ-loop
+returns c = every-stops _ _ slots (omega arith) (c .before .cell-agrees .ensures) (c .if1 .taken)
+
+add-k : tie.Need-add-k Inv-loop μ-loop
+add-k c = search needs
+
+loop-less : tie.Need-loop-less Inv-loop μ-loop
+loop-less c = search needs
+
+loop-again : tie.Need-loop-again Inv-loop μ-loop
+loop-again c =
+    (omega arith, every-more _ _ (c .before .before .before .loop .inv .1) (c .before .cell-agrees .ensures) (c .if1 .left))
+
+returns-2 : tie.Need-returns-2 Inv-loop μ-loop
+returns-2 c =
+    let e : c .before .loop .k ≡ slots = omega arith in
+    sym (rw e at (c .before .loop .inv .1))
+
+pub cells-agree-spec : {M : Type 1} → statement M
+cells-agree-spec =
+    tie.close
+    (tie.spec
+    Inv-loop
+    μ-loop
+    loop-holds
+    cell-agrees-requires
+    returns
+    add-k
+    loop-less
+    loop-again
+    returns-2)

@@ -1,0 +1,58 @@
+-- Demand 3's words on two tables that have had the same bytes, as tests that compute: the unbounded table first, then the bounded one.
+use Prim.Native.Nat.{ℕ, zero, suc, _+_, _%_}
+use mathlib.Core.Bool.{Bool, cond, _&&_}
+use lib.Dec.{leb, eqb}
+use lib.IntN.{ℤ, pos, negsuc}
+use Rattle.table.specs.Tests.{within, every, eqℤ}
+use Rattle.table.specs.Numbers.{slots, tokenLimit, isNone, modulusOf}
+use Rattle.table.specs.Rules.{rowOf, cellOf}
+use Rattle.table.specs.declared.Row.{Row}
+use Rattle.table.specs.declared.Table.{Table}
+
+-- "is the unbounded one's remainder modulo" m, "with -1 for -1"
+unfoldable pub isRemainder : ℕ → ℤ → ℤ → Bool
+isRemainder m (pos u) b = eqℤ b (pos (u % m))
+isRemainder m (negsuc u) b = isNone (negsuc u) && isNone b
+
+-- read cell j of a row of each
+unfoldable pub cellAgrees : ℕ → Row → Row → ℕ → Bool
+cellAgrees m u b j = isRemainder m (cellOf u j) (cellOf b j)
+
+-- "all rows agree in line, index and choosing flag", and "every token, pivot and read cell" is the remainder
+unfoldable pub rowAgrees : ℕ → Row → Row → Bool
+rowAgrees m u b =
+    eqb (u .line) (b .line)
+    && eqb (u .index) (b .index)
+    && eqb (u .choosing) (b .choosing)
+    && isRemainder m (u .token) (b .token)
+    && isRemainder m (u .pivot) (b .pivot)
+    && every (cellAgrees m u b) slots
+
+-- row i of each
+unfoldable pub rowAtAgrees : ℕ → Table → Table → ℕ → Bool
+rowAtAgrees m u b i = rowAgrees m (rowOf u i) (rowOf b i)
+
+-- X, and all rows
+unfoldable pub agree : ℕ → Table → Table → Bool
+agree m u b = isRemainder m (u .x) (b .x) && every (rowAtAgrees m u b) slots
+
+-- 1 if row i stands at lines 8 to 10, else 0
+unfoldable pub criticalAt : Table → ℕ → ℕ
+criticalAt t i = cond (within 8 10 (rowOf t i .line)) 1 0
+
+-- how many of rows 1 to k stand there
+unfoldable pub criticals : Table → ℕ → ℕ
+criticals t zero = 0
+criticals t (suc k) = criticals t k + criticalAt t (suc k)
+
+-- "at most one process stands at lines 8 to 10"
+unfoldable pub atMostOne : Table → Bool
+atMostOne t = leb (criticals t slots) 1
+
+-- demand 3 after a byte, of tables for n processes
+unfoldable pub meets : ℕ → Table → Table → Bool
+meets n u b = agree (modulusOf n) u b && atMostOne u && atMostOne b
+
+-- Two tables of one machine are the same: no token is above the limit, so modulo one more each is its own remainder.
+unfoldable pub same : Table → Table → Bool
+same t other = eqb (t .algorithm) (other .algorithm) && eqb (t .n) (other .n) && agree (tokenLimit + 1) t other

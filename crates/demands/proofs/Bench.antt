@@ -1,0 +1,183 @@
+-- The bench cases of document 01 hold: the definitions compute to the paper's numbers.
+use Prim.Native.Nat.{ℕ, _-_}
+use mathlib.Core.Path.{_≡_, refl, ap}
+use mathlib.Core.Bool.{true}
+use mathlib.Core.List.{_∷_, [], _++_, flatten}
+use borrow.Author.Tests.{le-leb}
+use lib.Dec.{leb·zero}
+use lib.IntN.{ℤ, pos}
+use lib.ListN.{length, replicate}
+use Rattle.table.specs.Tests.{every}
+use Rattle.table.specs.Numbers.{slots, unbounded, bounded, limitOf, tokenLimit}
+use Rattle.table.specs.Refusals.{noRefusal}
+use Rattle.table.specs.Rules.{rowOf, algorithmOk, lineOk, indexOk, choosingOk, tokenOk, pivotOk, mayHold}
+use Rattle.table.specs.Rules.{cellOk, cellRule, cellsOk, rowOk, rowRule, rowsOk, wellFormed}
+use Rattle.table.specs.Fresh.{allNone, freshRow, freshTable}
+use Rattle.table.specs.declared.Row.{Row}
+use Rattle.table.specs.declared.Table.{Table}
+use Rattle.table.proofs.Tests.{within-low, within-high, every-at}
+use Rattle.table.proofs.WellFormed.{fresh-well-formed}
+use Rattle.machine.specs.Tokens.{remainder, largest, nextUb, shifted, shiftedCell, nextB, beforeUb, beforeB, nextToken, goesBefore}
+use Rattle.machine.specs.Setters.{withLine, withIndex, withToken}
+use Rattle.machine.specs.Step.{nextOther, goesOn, line2, line4, line5, line6, line7, lineStep, advanceOf, takenOf, stepOf}
+use Rattle.machine.specs.Run.{courseOf, those, movedIn, waitedIn, entriesIn, enteredIn, waitingUpTo, runRefusal, runOf, bufferOf}
+use Rattle.machine.specs.declared.Stepped.{Stepped}
+use Rattle.machine.proofs.Steps.{step-taken}
+use Rattle.demands.specs.Bench.{onBoth, forEachCount, ran, entered, stepWaits, atLine4, alternating, threeOnes, benchCases, allHold}
+use Rattle.demands.specs.Bench as cases
+
+-- What the definitions compute by. To unfold one of these names is to unfold the list under it.
+
+rules : Unit {0}
+unfolding every limitOf lineOk indexOk choosingOk tokenOk pivotOk mayHold cellOk cellRule cellsOk rowOk rowRule rowsOk wellFormed
+rules = tt
+
+tokens : Unit {0}
+unfolding remainder largest nextUb shifted shiftedCell nextB beforeUb beforeB nextToken goesBefore
+tokens = tt
+
+steps : Unit {0}
+unfolding rules tokens nextOther goesOn line2 line4 line5 line6 line7 lineStep advanceOf takenOf stepOf
+steps = tt
+
+runs : Unit {0}
+unfolding steps flatten courseOf those movedIn waitedIn entriesIn enteredIn waitingUpTo runRefusal runOf bufferOf
+runs = tt
+
+alone : cases.alone
+unfolding runs
+alone = ((refl, refl), (refl, refl))
+
+two-seen : cases.twoSeen
+unfolding steps
+two-seen = ((refl, refl, refl), (refl, refl, refl))
+
+none-seen : onBoth cases.noneSeen
+unfolding steps
+none-seen = ((refl, refl, refl), (refl, refl, refl))
+
+round-the-end : cases.roundTheEnd
+unfolding tokens
+round-the-end i j = (refl, refl)
+
+farthest : cases.farthest
+unfolding tokens
+farthest i j = (refl, refl)
+
+same-token : onBoth cases.sameToken
+unfolding tokens
+same-token = ((refl, refl), (refl, refl))
+
+-- The long runs are computed once each, to the whole answer, and what a case names is read off it.
+
+-- a table for two processes, and a row that is past the choice of its token
+abbrev pair : ℕ → ℤ → Row → Row → Table
+pair algorithm x first second =
+    record { algorithm = algorithm; n = 2; x = x; rows = first ∷ second ∷ replicate (slots - 2) freshRow }
+
+abbrev row : ℕ → ℕ → ℤ → Row
+row line index token = withLine line (withIndex index (withToken token freshRow))
+
+-- both hold token 1, and process 2 waits for process 1
+abbrev waiting : ℕ → Table
+waiting algorithm = pair algorithm (pos 0) (row 6 2 (pos 1)) (row 7 1 (pos 1))
+
+-- and process 1 has entered
+abbrev inside : ℕ → Table
+inside algorithm = pair algorithm (pos 1) (row 9 0 (pos 1)) (row 7 1 (pos 1))
+
+-- the runs of that case
+record Answers (algorithm : ℕ) : Type 0 where
+  first : ran (freshTable algorithm 2) alternating
+      ≡ record { table = waiting algorithm; moved = 13; waited = 1; entries = 0; waiting = 2; place = 14; stop = noRefusal }
+  later : ran (waiting algorithm) threeOnes
+      ≡ record { table = inside algorithm; moved = 3; waited = 0; entries = 1; waiting = 1; place = 3; stop = noRefusal }
+  whole : ran (freshTable algorithm 2) (alternating ++ threeOnes)
+      ≡ record { table = inside algorithm; moved = 16; waited = 1; entries = 1; waiting = 1; place = 17; stop = noRefusal }
+  enters : entered (waiting algorithm) threeOnes (1 ∷ [])
+  enters-in-all : entered (freshTable algorithm 2) (alternating ++ threeOnes) (1 ∷ [])
+
+read-off : (algorithm : ℕ) → Answers algorithm → cases.lowerFirst algorithm
+read-off algorithm a =
+    rw (a .first, a .later, a .whole) (refl, refl, refl, refl, refl, a .enters, refl, refl, refl, a .enters-in-all, refl, refl)
+
+lower-first : onBoth cases.lowerFirst
+unfolding runs
+lower-first = (
+  read-off unbounded (record { first = refl; later = refl; whole = refl; enters = refl; enters-in-all = refl }),
+  read-off bounded (record { first = refl; later = refl; whole = refl; enters = refl; enters-in-all = refl }),
+)
+
+-- process 1 holds token 0, and process 2 waits for it
+abbrev zeroHeld : Table
+zeroHeld = pair bounded (pos 2) (row 6 2 (pos 0)) (row 7 1 (pos 1))
+
+zero-held : ran (freshTable bounded 2) (replicate 28 1 ++ replicate 8 2)
+    ≡ record { table = zeroHeld; moved = 35; waited = 1; entries = 2; waiting = 2; place = 36; stop = noRefusal }
+unfolding runs
+zero-held = refl
+
+second-waits : stepWaits zeroHeld 2
+unfolding steps
+second-waits = refl
+
+token-zero : cases.tokenZero
+token-zero = rw zero-held (refl, refl, refl, second-waits, refl, refl, refl)
+
+no-such-process : onBoth cases.noSuchProcess
+unfolding runs
+no-such-process = (((refl, refl), (refl, refl)), ((refl, refl), (refl, refl)))
+
+-- process 1 of an unbounded table at line 4, no token seen; well formed for every n, since it is for each of the sixteen
+abbrev picking : ℤ → ℕ → Table
+picking pivot n = atLine4 unbounded n pivot allNone
+
+below-limit : every (λ (n : ℕ). wellFormed (picking (pos 999_999) n)) slots ≡ true
+unfolding rules
+below-limit = refl
+
+at-limit : every (λ (n : ℕ). wellFormed (picking (pos tokenLimit) n)) slots ≡ true
+unfolding rules
+at-limit = refl
+
+last-token : forEachCount cases.lastToken
+unfolding tokens line4 lineStep advanceOf takenOf
+last-token n ok =
+    let below = taken (pos 999_999) below-limit in
+    ((refl, ap (λ (s : Stepped). s .stop) below, ap (λ (s : Stepped). rowOf (s .table) 1 .token) below), taken (pos tokenLimit) at-limit)
+  where
+    taken : (pivot : ℤ) → every (λ (m : ℕ). wellFormed (picking pivot m)) slots ≡ true
+        → stepOf (picking pivot n) 1 ≡ takenOf (picking pivot n) 1
+    taken pivot each =
+        let some = within-low 1 slots n ok in
+        let most = within-high 1 slots n ok in
+        let formed = every-at (λ (m : ℕ). wellFormed (picking pivot m)) n slots some most each in
+        step-taken (picking pivot n) 1 formed (le-leb 1 n some)
+
+empty-schedule : onBoth (λ algorithm. forEachCount (cases.emptySchedule algorithm))
+unfolding courseOf those movedIn waitedIn entriesIn waitingUpTo runRefusal runOf
+empty-schedule = (empty unbounded refl, empty bounded refl)
+  where
+    empty : (algorithm : ℕ) → algorithmOk algorithm ≡ true → forEachCount (cases.emptySchedule algorithm)
+    empty algorithm known n ok buffer = rw (fresh-well-formed algorithm n known ok, leb·zero (length buffer))
+
+-- The list.
+
+infixr 20 _and_
+_and_ : {A B : Type 0} → A → B → A × B
+a and b = (a, b)
+
+pub bench : allHold benchCases
+bench =
+    alone
+    and two-seen
+    and none-seen
+    and round-the-end
+    and farthest
+    and same-token
+    and lower-first
+    and token-zero
+    and no-such-process
+    and last-token
+    and empty-schedule
+    and tt

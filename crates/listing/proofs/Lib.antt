@@ -1,0 +1,5 @@
+pub mod Decimals
+pub mod Writing
+pub mod EntryLines
+pub mod Lengths
+pub mod Listings

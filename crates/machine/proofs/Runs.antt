@@ -1,0 +1,109 @@
+-- The laws of a run, which the layers above cite.
+use Prim.Native.Nat.{ℕ, _+_, _≤_}
+use mathlib.Core.Path.{_≡_, refl, sym, ap, _∙_}
+use mathlib.Core.Bool.{true}
+use mathlib.Core.List.{List, [], _∷_, _++_}
+use borrow.Author.Tests.{le-leb, ne-eqb}
+use lib.Dec.{eqb}
+use lib.ListN.{length, length-append}
+use Rattle.table.specs.Numbers.{scheduleLimit}
+use Rattle.table.specs.Refusals.{noRefusal}
+use Rattle.table.specs.Rules.{wellFormed}
+use Rattle.table.specs.Sized.{Sized}
+use Rattle.table.specs.declared.Table.{Table}
+use Rattle.table.proofs.Tests.{by-test}
+use Rattle.machine.specs.Step.{stepOf}
+use Rattle.machine.specs.Run.{Turn, Course, followed, courseOf, enteredIn, waitingOf, answerOf, inFront, runRefusal, runOf, bufferOf}
+use Rattle.machine.specs.declared.Ran.{Ran}
+use Rattle.machine.proofs.Steps.{step-well-formed, step-sized}
+use Rattle.machine.proofs.Counts.{moved-append, waited-append, entries-append, entered-append}
+use Rattle.machine.proofs.Courses.{course-append, course-goes-on}
+
+module _ (t : Table) (s b : List ℕ) where
+  -- A run of a well-formed table is not refused as a whole, where the schedule is not too long and the buffer is not too short.
+  pub run-accepted : wellFormed t ≡ true → length s ≤ scheduleLimit → length s ≤ length b → runRefusal t s b ≡ noRefusal
+  unfolding runRefusal
+  run-accepted w short room = rw (w, le-leb (length s) scheduleLimit short, le-leb (length s) (length b) room)
+
+  -- Then it answers what its course gives, and its entries stand in front of the buffer.
+  module _ (accepted : runRefusal t s b ≡ noRefusal) where
+    pub run-answer : runOf t s b ≡ answerOf (courseOf t s)
+    unfolding runOf
+    run-answer = rw accepted
+
+    pub run-buffer : bufferOf t s b ≡ inFront (enteredIn (courseOf t s .turns)) b
+    unfolding bufferOf
+    run-buffer = rw accepted
+
+-- The last table of a course is well formed, and sized, if the first one is.
+pub course-well-formed : (t : Table) (s : List ℕ) → wellFormed t ≡ true → Sized t → wellFormed (courseOf t s .table) ≡ true
+unfolding courseOf
+course-well-formed t [] w z = w
+course-well-formed t (i ∷ s) w z =
+    by-test (λ (c : Course). wellFormed (c .table) ≡ true) (eqb (stepOf t i .stop) noRefusal)
+    (λ _. course-well-formed (stepOf t i .table) s (step-well-formed t i w z) (step-sized t i z))
+    (λ _. w)
+
+pub course-sized : (t : Table) (s : List ℕ) → Sized t → Sized (courseOf t s .table)
+unfolding courseOf
+course-sized t [] z = z
+course-sized t (i ∷ s) z =
+    by-test (λ (c : Course). Sized (c .table)) (eqb (stepOf t i .stop) noRefusal)
+    (λ _. course-sized (stepOf t i .table) s (step-sized t i z))
+    (λ _. z)
+
+-- One run after another: the counts are added, and the table and what is waiting in it are the last one's.
+abbrev pub afterwards : Ran → Ran → Ran
+afterwards a b = record {
+  table = b .table;
+  moved = a .moved + b .moved;
+  waited = a .waited + b .waited;
+  entries = a .entries + b .entries;
+  waiting = b .waiting;
+  place = a .place + b .place;
+  stop = b .stop;
+}
+
+answer-followed : (us : List Turn) (c d : Course) → c .turns ≡ us → answerOf (followed us d) ≡ afterwards (answerOf c) (answerOf d)
+answer-followed us c d e =
+    rw e
+    (λ at. record {
+      table = d .table;
+      moved = moved-append us (d .turns) at;
+      waited = waited-append us (d .turns) at;
+      entries = entries-append us (d .turns) at;
+      waiting = waitingOf (d .table);
+      place = length-append us (d .turns) at;
+      stop = d .stop;
+    })
+
+-- A schedule followed by another, each run with a buffer of its own: the run over both is the two runs one after the other, so that a
+-- longer schedule is several runs, each from the last one's table. If a byte of the first is refused, the run over both ends there.
+module _ (t : Table) (s later buffer first : List ℕ) (both : runRefusal t (s ++ later) buffer ≡ noRefusal)
+    (one : runRefusal t s first ≡ noRefusal) where
+  pub run-append : (second : List ℕ) → runOf t s first .stop ≡ noRefusal
+      → runRefusal (runOf t s first .table) later second ≡ noRefusal
+      → runOf t (s ++ later) buffer ≡ afterwards (runOf t s first) (runOf (runOf t s first .table) later second)
+  run-append second going two =
+      let a = run-answer t s first one in
+      let stop : courseOf t s .stop ≡ noRefusal = ap (λ (r : Ran). r .stop) (sym a) ∙ going in
+      let last : runOf t s first .table ≡ courseOf t s .table = ap (λ (r : Ran). r .table) a in
+      let d = courseOf (courseOf t s .table) later in
+      let joined = course-goes-on t s later stop in
+      let b : runOf (runOf t s first .table) later second ≡ answerOf d = run-answer _ later second two ∙ rw last in
+      run-answer t (s ++ later) buffer both ∙ ap answerOf joined ∙ answer-followed (courseOf t s .turns) (courseOf t s) d refl
+      ∙ sym (λ at. afterwards (a at) (b at))
+
+  pub run-stopped : (runOf t s first .stop ≡ noRefusal → ⊥) → runOf t (s ++ later) buffer ≡ runOf t s first
+  run-stopped stopped =
+      let a = run-answer t s first one in
+      let stop : courseOf t s .stop ≡ noRefusal → ⊥ = λ q. stopped (ap (λ (r : Ran). r .stop) a ∙ q) in
+      run-answer t (s ++ later) buffer both ∙ ap answerOf (course-append t s later ∙ rw (ne-eqb _ noRefusal stop)) ∙ sym a
+
+-- and the entries of the first stand before those of the second
+pub entered-in-turn : (t : Table) (s later : List ℕ) → courseOf t s .stop ≡ noRefusal
+    → enteredIn (courseOf t (s ++ later) .turns)
+    ≡ enteredIn (courseOf t s .turns) ++ enteredIn (courseOf (courseOf t s .table) later .turns)
+entered-in-turn t s later going =
+    ap (λ (c : Course). enteredIn (c .turns)) (course-goes-on t s later going)
+    ∙ entered-append (courseOf t s .turns) (courseOf (courseOf t s .table) later .turns)
