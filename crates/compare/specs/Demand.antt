@@ -1,9 +1,9 @@
 -- Demand 3's words on two tables that have had the same bytes, as tests that compute: the unbounded table first, then the bounded one.
-use Prim.Native.Nat.{ℕ, zero, suc, _+_, _%_}
-use mathlib.Core.Bool.{Bool, cond, _&&_}
+use Prim.Native.Nat.{ℕ, _+_, _%_}
+use mathlib.Core.Bool.{Bool, _&&_}
 use lib.Dec.{leb, eqb}
 use lib.IntN.{ℤ, pos, negsuc}
-use Rattle.table.specs.Tests.{within, every, eqℤ}
+use Rattle.table.specs.Tests.{within, every, howMany, eqℤ}
 use Rattle.table.specs.Numbers.{slots, tokenLimit, isNone, modulusOf}
 use Rattle.table.specs.Rules.{rowOf, cellOf}
 use Rattle.table.specs.declared.Row.{Row}
@@ -36,18 +36,13 @@ rowAtAgrees m u b i = rowAgrees m (rowOf u i) (rowOf b i)
 unfoldable pub agree : ℕ → Table → Table → Bool
 agree m u b = isRemainder m (u .x) (b .x) && every (rowAtAgrees m u b) slots
 
--- 1 if row i stands at lines 8 to 10, else 0
-unfoldable pub criticalAt : Table → ℕ → ℕ
-criticalAt t i = cond (within 8 10 (rowOf t i .line)) 1 0
-
--- how many of rows 1 to k stand there
-unfoldable pub criticals : Table → ℕ → ℕ
-criticals t zero = 0
-criticals t (suc k) = criticals t k + criticalAt t (suc k)
+-- whether row i stands at lines 8 to 10
+abbrev pub isCritical : Table → ℕ → Bool
+isCritical t i = within 8 10 (rowOf t i .line)
 
 -- "at most one process stands at lines 8 to 10"
 unfoldable pub atMostOne : Table → Bool
-atMostOne t = leb (criticals t slots) 1
+atMostOne t = leb (howMany (isCritical t) slots) 1
 
 -- demand 3 after a byte, of tables for n processes
 unfoldable pub meets : ℕ → Table → Table → Bool

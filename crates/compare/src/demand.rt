@@ -1,6 +1,7 @@
 // Demand 3's words on two tables: "after every byte all rows agree in line, index and choosing flag; X and every token, pivot and read cell
 // of the bounded table is the unbounded one's remainder modulo 2n - 1, with -1 for -1; and at most one process stands at lines 8 to 10."
 ghost use mathlib.Core.Path.{_≡_};
+ghost use mathlib.Core.Bool.{cond};
 ghost use Prim.Native.Nat.{_+_, _<_, _≤_};
 ghost use lib.Dec.{T};
 ghost use lib.IntN.{pos, natAbs};
@@ -9,7 +10,7 @@ ghost use lib.Signed.{nonNeg};
 ghost use Rattle.table.specs.Tests.{every};
 ghost use Rattle.table.specs.Numbers.{slots, modulusOf};
 ghost use Rattle.compare.specs.Demand.{isRemainder, cellAgrees, rowAgrees, rowAtAgrees, agree};
-ghost use Rattle.compare.specs.Demand.{criticalAt, atMostOne, meets, same};
+ghost use Rattle.compare.specs.Demand.{isCritical, atMostOne, meets, same};
 use table::Row;
 use table::SLOTS;
 use table::TOKEN_LIMIT;
@@ -115,7 +116,7 @@ fn tables_agree(m: u32, unbounded: Table, bounded: Table) -> bool
 // 1 if the process at place k stands at lines 8 to 10, else 0.
 fn critical_at(t: Table, k: usize) -> u8
     requires { ⌜ k < slots ⌝ }
-    ensures { λ c. ⌜ c ≡ criticalAt t (k + 1) ⌝ }
+    ensures { λ c. ⌜ c ≡ cond (isCritical t (k + 1)) 1 0 ⌝ }
     ensures { λ c. ⌜ c ≤ 1 ⌝ }
 {
     let r = t.rows[k];

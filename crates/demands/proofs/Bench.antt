@@ -7,7 +7,7 @@ use borrow.Author.Tests.{le-leb}
 use lib.Dec.{leb·zero}
 use lib.IntN.{ℤ, pos}
 use lib.ListN.{length, replicate}
-use Rattle.table.specs.Tests.{every}
+use Rattle.table.specs.Tests.{every, howMany}
 use Rattle.table.specs.Numbers.{slots, unbounded, bounded, limitOf, tokenLimit}
 use Rattle.table.specs.Refusals.{noRefusal}
 use Rattle.table.specs.Rules.{rowOf, algorithmOk, lineOk, indexOk, choosingOk, tokenOk, pivotOk, mayHold}
@@ -20,7 +20,7 @@ use Rattle.table.proofs.WellFormed.{fresh-well-formed}
 use Rattle.machine.specs.Tokens.{remainder, largest, nextUb, shifted, shiftedCell, nextB, beforeUb, beforeB, nextToken, goesBefore}
 use Rattle.machine.specs.Setters.{withLine, withIndex, withToken}
 use Rattle.machine.specs.Step.{nextOther, goesOn, line2, line4, line5, line6, line7, lineStep, advanceOf, takenOf, stepOf}
-use Rattle.machine.specs.Run.{courseOf, those, movedIn, waitedIn, entriesIn, enteredIn, waitingUpTo, runRefusal, runOf, bufferOf}
+use Rattle.machine.specs.Run.{courseOf, those, movedIn, waitedIn, entriesIn, enteredIn, runRefusal, runOf, bufferOf}
 use Rattle.machine.specs.declared.Stepped.{Stepped}
 use Rattle.machine.proofs.Steps.{step-taken}
 use Rattle.demands.specs.Bench.{onBoth, forEachCount, ran, entered, stepWaits, atLine4, alternating, threeOnes, benchCases, allHold}
@@ -29,7 +29,7 @@ use Rattle.demands.specs.Bench as cases
 -- What the definitions compute by. To unfold one of these names is to unfold the list under it.
 
 rules : Unit {0}
-unfolding every limitOf lineOk indexOk choosingOk tokenOk pivotOk mayHold cellOk cellRule cellsOk rowOk rowRule rowsOk wellFormed
+unfolding every howMany limitOf lineOk indexOk choosingOk tokenOk pivotOk mayHold cellOk cellRule cellsOk rowOk rowRule rowsOk wellFormed
 rules = tt
 
 tokens : Unit {0}
@@ -41,7 +41,7 @@ unfolding rules tokens nextOther goesOn line2 line4 line5 line6 line7 lineStep a
 steps = tt
 
 runs : Unit {0}
-unfolding steps flatten courseOf those movedIn waitedIn entriesIn enteredIn waitingUpTo runRefusal runOf bufferOf
+unfolding steps flatten courseOf those movedIn waitedIn entriesIn enteredIn runRefusal runOf bufferOf
 runs = tt
 
 alone : cases.alone
@@ -155,7 +155,7 @@ last-token n ok =
         step-taken (picking pivot n) 1 formed (le-leb 1 n some)
 
 empty-schedule : onBoth (λ algorithm. forEachCount (cases.emptySchedule algorithm))
-unfolding courseOf those movedIn waitedIn entriesIn waitingUpTo runRefusal runOf
+unfolding howMany courseOf those movedIn waitedIn entriesIn runRefusal runOf
 empty-schedule = (empty unbounded refl, empty bounded refl)
   where
     empty : (algorithm : ℕ) → algorithmOk algorithm ≡ true → forEachCount (cases.emptySchedule algorithm)

@@ -1,10 +1,10 @@
 -- Document 01, "A run": the steps of a schedule one after another, and what is counted of them.
-use Prim.Native.Nat.{ℕ, zero, suc, _+_}
+use Prim.Native.Nat.{ℕ}
 use mathlib.Core.Bool.{Bool, cond}
 use mathlib.Core.List.{List, [], _∷_, _++_, map}
 use lib.Dec.{leb, eqb}
 use lib.ListN.{length, drop}
-use Rattle.table.specs.Tests.{within}
+use Rattle.table.specs.Tests.{within, howMany}
 use Rattle.table.specs.Numbers.{slots, scheduleLimit}
 use Rattle.table.specs.Refusals.{noRefusal, notWellFormed, scheduleTooLong, entriesTooShort}
 use Rattle.table.specs.Rules.{rowOf, wellFormed}
@@ -79,14 +79,9 @@ enteredIn us = map (λ (u : Turn). u .process) (those isEntry us)
 abbrev pub isWaiting : Table → ℕ → Bool
 isWaiting t i = within 6 7 (rowOf t i .line)
 
--- how many of the rows 1 to k wait
-unfoldable pub waitingUpTo : Table → ℕ → ℕ
-waitingUpTo t zero = 0
-waitingUpTo t (suc k) = waitingUpTo t k + cond (isWaiting t (suc k)) 1 0
-
 -- "waiting is the number of rows at line 6 or 7 in the last table"
 abbrev pub waitingOf : Table → ℕ
-waitingOf t = waitingUpTo t slots
+waitingOf t = howMany (isWaiting t) slots
 
 -- The answer of a run whose bytes are looked at. "the place (from 0) of the refused byte or the schedule's length" is the number of bytes
 -- taken.

@@ -3,20 +3,21 @@ use Prim.Native.Nat.{_≤_, _-_}
 use mathlib.Core.Path.{_≡_, refl}
 use native.Mathlib.Numerals.{add-one}
 use Rattle.table.specs.Numbers.{slots}
-use Rattle.compare.specs.Demand.{criticals, atMostOne}
+use Rattle.table.specs.Tests.{howMany}
+use Rattle.compare.specs.Demand.{isCritical, atMostOne}
 use borrow.Author.Needs.{needs}
 use native.Mathlib.Omega.{arith}
 use Rattle.compare.proofs.demand.at_most_one.Statement.{statement}
 use Rattle.compare.proofs.demand.at_most_one.Tie as tie
 
 abbrev Inv-loop : tie.InvT-loop
-Inv-loop t count₀ k₀ count k = (k ≤ slots) × (count ≤ k) × (count ≡ criticals t k)
+Inv-loop t count₀ k₀ count k = (k ≤ slots) × (count ≤ k) × (count ≡ howMany (isCritical t) k)
 
 abbrev μ-loop : tie.MeasureT-loop
 μ-loop t count₀ k₀ count k = slots - k
 
 loop-holds : tie.Need-loop-holds Inv-loop μ-loop
-unfolding criticals
+unfolding howMany
 loop-holds c = (omega arith, omega arith, refl)
 
 critical-at-requires : tie.Need-critical-at-requires Inv-loop μ-loop
@@ -32,7 +33,7 @@ loop-less : tie.Need-loop-less Inv-loop μ-loop
 loop-less c = search needs
 
 loop-again : tie.Need-loop-again Inv-loop μ-loop
-unfolding criticals
+unfolding howMany
 loop-again c =
     let k = c .before .before .loop .k in
     (omega arith, omega arith, rw (c .critical-at .ensures .0, add-one k, c .before .before .loop .inv .2))

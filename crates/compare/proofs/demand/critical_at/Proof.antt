@@ -1,7 +1,6 @@
 -- `critical_at` meets its contract.
 use Prim.Native.Nat.{_+_, _-_}
 use mathlib.Core.Path.{_≡_, sym, _∙_}
-use Rattle.compare.specs.Demand.{criticalAt}
 use native.Mathlib.Omega.{arith}
 use borrow.Author.Needs.{needs}
 use Rattle.compare.proofs.demand.critical_at.Statement.{statement}
@@ -17,14 +16,12 @@ number-within-requires : tie.Need-number-within-requires
 number-within-requires c κs = search needs
 
 returns : tie.Need-returns
-unfolding criticalAt
 returns c =
     let k = c .before .before .before .args .k in
     let e : k + 1 - 1 ≡ k = omega arith in
     (rw (e, sym (c .before .number-within .ensures) ∙ c .if1 .taken), omega arith)
 
 returns-2 : tie.Need-returns-2
-unfolding criticalAt
 returns-2 c =
     let k = c .before .before .before .args .k in
     let e : k + 1 - 1 ≡ k = omega arith in

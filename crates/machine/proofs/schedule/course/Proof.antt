@@ -147,9 +147,9 @@ add-moved : tie.Need-add-moved Inv-loop μ-loop
 add-moved c =
     let answer = c .before .before .before .before .before .before .before in
     let turn = answer .before .before .before .before .before .before .before .before .before in
-    let one : c .count-of .result ≤ 1 =
-    rw (c .count-of .ensures, ← ap (λ (r : Stepped). r .mark) (stepped answer)) (step-mark-most _ _) in
-    omega (arith, one, moved-few (turn .before .loop .inv), turn .loop-test .taken, turn .before .before .before .before .good)
+    let one : answer .advance .result .mark ≤ 1 = rw (← ap (λ (r : Stepped). r .mark) (stepped answer)) (step-mark-most _ _) in
+    let few = moved-few (turn .before .loop .inv) in
+    omega (arith, c .count-of .ensures, one, few, turn .loop-test .taken, turn .before .before .before .before .good)
 
 mul-row : tie.Need-mul-row Inv-loop μ-loop
 mul-row c = omega (arith, own-slot (c .before .before .before .before .before .before .before .before .before .before .before .before .before))

@@ -3,20 +3,21 @@ use Prim.Native.Nat.{suc, _≤_, _-_}
 use mathlib.Core.Path.{_≡_, refl}
 use native.Mathlib.Numerals.{add-one}
 use Rattle.table.specs.Numbers.{slots}
-use Rattle.machine.specs.Run.{waitingUpTo}
+use Rattle.table.specs.Tests.{howMany}
+use Rattle.machine.specs.Run.{isWaiting}
 use borrow.Author.Needs.{needs}
 use native.Mathlib.Omega.{arith}
 use Rattle.machine.proofs.schedule.waiting_in.Statement.{statement}
 use Rattle.machine.proofs.schedule.waiting_in.Tie as tie
 
 abbrev Inv-loop : tie.InvT-loop
-Inv-loop t waiting₀ k₀ waiting k = (k ≤ slots) × (waiting ≤ k) × (waiting ≡ waitingUpTo t k)
+Inv-loop t waiting₀ k₀ waiting k = (k ≤ slots) × (waiting ≤ k) × (waiting ≡ howMany (isWaiting t) k)
 
 abbrev μ-loop : tie.MeasureT-loop
 μ-loop t waiting₀ k₀ waiting k = slots - k
 
 loop-holds : tie.Need-loop-holds Inv-loop μ-loop
-unfolding waitingUpTo
+unfolding howMany
 loop-holds c = (omega arith, omega arith, refl)
 
 mul-waits-at : tie.Need-mul-waits-at Inv-loop μ-loop
@@ -38,7 +39,7 @@ loop-less : tie.Need-loop-less Inv-loop μ-loop
 loop-less c = search needs
 
 loop-again : tie.Need-loop-again Inv-loop μ-loop
-unfolding waitingUpTo
+unfolding howMany
 loop-again c =
     let b = c .before .before in
     let same : suc (b .loop .k) - 1 ≡ b .loop .k = omega arith in
