@@ -12,21 +12,21 @@ use Rattle.table.specs.Refusals.{noRefusal}
 use Rattle.table.specs.declared.Table.{Table}
 use Rattle.table.proofs.Tests.{by-test, of-choice}
 use Rattle.machine.specs.Step.{stepOf}
-use Rattle.machine.specs.Run.{Turn, Course, turnOf, standsAt, followed, courseOf, movedIn, waitedIn}
+use Rattle.machine.specs.Run.{Turn, Course, turnOf, standsAt, begunBy, courseOf, movedIn, waitedIn}
 use Rattle.machine.proofs.Steps.{step-mark}
 use Rattle.machine.proofs.Counts.{counts-none, counts-first}
 
 -- A course goes on with a later schedule from its last table, unless a byte was refused.
 abbrev pub goesOnWith : List ℕ → Course → Course
-goesOnWith later c = cond (eqb (c .stop) noRefusal) (followed (c .turns) (courseOf (c .table) later)) c
+goesOnWith later c = cond (eqb (c .stop) noRefusal) (begunBy (c .turns) (courseOf (c .table) later)) c
 
 -- turns before a course do not change how it goes on
-followed-on : (us : List Turn) (later : List ℕ) (c : Course) → followed us (goesOnWith later c) ≡ goesOnWith later (followed us c)
-followed-on us later c =
+begun-on : (us : List Turn) (later : List ℕ) (c : Course) → begunBy us (goesOnWith later c) ≡ goesOnWith later (begunBy us c)
+begun-on us later c =
     let on = courseOf (c .table) later in
-    let both : followed us (followed (c .turns) on) ≡ followed (us ++ c .turns) on =
+    let both : begunBy us (begunBy (c .turns) on) ≡ begunBy (us ++ c .turns) on =
     λ at. record { turns = sym (append-assoc us (c .turns) (on .turns)) at; table = on .table; stop = on .stop } in
-    of-choice (followed us) (eqb (c .stop) noRefusal) (followed (c .turns) on) c ∙ rw both
+    of-choice (begunBy us) (eqb (c .stop) noRefusal) (begunBy (c .turns) on) c ∙ rw both
 
 -- A schedule followed by another: the one course, and then the other.
 pub course-append : (t : Table) (s later : List ℕ) → courseOf t (s ++ later) ≡ goesOnWith later (courseOf t s)
@@ -45,12 +45,12 @@ course-append t (i ∷ s) later =
     stopped = standsAt t (stepOf t i .stop)
 
     by-bool : (b : Bool) → eqb (stepOf t i .stop) noRefusal ≡ b → courseOf next (s ++ later) ≡ goesOnWith later (courseOf next s)
-        → cond b (followed one (courseOf next (s ++ later))) stopped ≡ goesOnWith later (cond b (followed one (courseOf next s)) stopped)
-    by-bool true e onward = ap (followed one) onward ∙ followed-on one later (courseOf next s)
+        → cond b (begunBy one (courseOf next (s ++ later))) stopped ≡ goesOnWith later (cond b (begunBy one (courseOf next s)) stopped)
+    by-bool true e onward = ap (begunBy one) onward ∙ begun-on one later (courseOf next s)
     by-bool false e onward = rw e
 
 pub course-goes-on : (t : Table) (s later : List ℕ) → courseOf t s .stop ≡ noRefusal
-    → courseOf t (s ++ later) ≡ followed (courseOf t s .turns) (courseOf (courseOf t s .table) later)
+    → courseOf t (s ++ later) ≡ begunBy (courseOf t s .turns) (courseOf (courseOf t s .table) later)
 course-goes-on t s later going = course-append t s later ∙ rw (eq-eqb _ noRefusal going)
 
 -- A byte more of a schedule, where none before it is refused and they lead from t to now: it is taken, or it stops the course.

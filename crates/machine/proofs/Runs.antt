@@ -1,6 +1,6 @@
 -- The laws of a run, which the layers above cite.
 use Prim.Native.Nat.{ℕ, _+_, _≤_}
-use mathlib.Core.Path.{_≡_, refl, sym, ap, _∙_}
+use mathlib.Core.Path.{_≡_, sym, ap, _∙_}
 use mathlib.Core.Bool.{true}
 use mathlib.Core.List.{List, [], _∷_, _++_}
 use borrow.Author.Tests.{le-leb, ne-eqb}
@@ -13,7 +13,7 @@ use Rattle.table.specs.Sized.{Sized}
 use Rattle.table.specs.declared.Table.{Table}
 use Rattle.table.proofs.Tests.{by-test}
 use Rattle.machine.specs.Step.{stepOf}
-use Rattle.machine.specs.Run.{Turn, Course, followed, courseOf, enteredIn, waitingOf, answerOf, inFront, runRefusal, runOf, bufferOf}
+use Rattle.machine.specs.Run.{Course, begunBy, courseOf, enteredIn, waitingOf, answerOf, inFront, runRefusal, runOf, bufferOf}
 use Rattle.machine.specs.declared.Ran.{Ran}
 use Rattle.machine.proofs.Steps.{step-well-formed, step-sized}
 use Rattle.machine.proofs.Counts.{moved-append, waited-append, entries-append, entered-append}
@@ -64,18 +64,17 @@ afterwards a b = record {
   stop = b .stop;
 }
 
-answer-followed : (us : List Turn) (c d : Course) → c .turns ≡ us → answerOf (followed us d) ≡ afterwards (answerOf c) (answerOf d)
-answer-followed us c d e =
-    rw e
-    (λ at. record {
+answer-begun : (c d : Course) → answerOf (begunBy (c .turns) d) ≡ afterwards (answerOf c) (answerOf d)
+answer-begun c d =
+    λ at. record {
       table = d .table;
-      moved = moved-append us (d .turns) at;
-      waited = waited-append us (d .turns) at;
-      entries = entries-append us (d .turns) at;
+      moved = moved-append (c .turns) (d .turns) at;
+      waited = waited-append (c .turns) (d .turns) at;
+      entries = entries-append (c .turns) (d .turns) at;
       waiting = waitingOf (d .table);
-      place = length-append us (d .turns) at;
+      place = length-append (c .turns) (d .turns) at;
       stop = d .stop;
-    })
+    }
 
 -- A schedule followed by another, each run with a buffer of its own: the run over both is the two runs one after the other, so that a
 -- longer schedule is several runs, each from the last one's table. If a byte of the first is refused, the run over both ends there.
@@ -91,7 +90,7 @@ module _ (t : Table) (s later buffer first : List ℕ) (both : runRefusal t (s +
       let d = courseOf (courseOf t s .table) later in
       let joined = course-goes-on t s later stop in
       let b : runOf (runOf t s first .table) later second ≡ answerOf d = run-answer _ later second two ∙ rw last in
-      run-answer t (s ++ later) buffer both ∙ ap answerOf joined ∙ answer-followed (courseOf t s .turns) (courseOf t s) d refl
+      run-answer t (s ++ later) buffer both ∙ ap answerOf joined ∙ answer-begun (courseOf t s) d
       ∙ sym (λ at. afterwards (a at) (b at))
 
   pub run-stopped : (runOf t s first .stop ≡ noRefusal → ⊥) → runOf t (s ++ later) buffer ≡ runOf t s first

@@ -31,16 +31,16 @@ pub record Course : Type 0 where
 abbrev pub standsAt : Table → ℕ → Course
 standsAt t stop = record { turns = []; table = t; stop = stop }
 
--- one course after another
-abbrev pub followed : List Turn → Course → Course
-followed turns c = record { turns = turns ++ c .turns; table = c .table; stop = c .stop }
+-- a course begun by some turns
+abbrev pub begunBy : List Turn → Course → Course
+begunBy turns c = record { turns = turns ++ c .turns; table = c .table; stop = c .stop }
 
 -- "A run does the steps of demand 2 one after another." "The run takes them in order and stops at the first byte refused."
 unfoldable pub courseOf : Table → List ℕ → Course
 courseOf t [] = standsAt t noRefusal
 courseOf t (i ∷ later) =
     let s = stepOf t i in
-    cond (eqb (s .stop) noRefusal) (followed (turnOf t i ∷ []) (courseOf (s .table) later)) (standsAt t (s .stop))
+    cond (eqb (s .stop) noRefusal) (begunBy (turnOf t i ∷ []) (courseOf (s .table) later)) (standsAt t (s .stop))
 
 -- The turns of which f holds.
 unfoldable pub those : (Turn → Bool) → List Turn → List Turn
@@ -62,11 +62,11 @@ unfoldable pub waitedIn : List Turn → ℕ
 waitedIn us = length (those unchanged us)
 
 -- "Entries is the count of line 8 steps taken"
-abbrev pub entryLine : ℕ
-entryLine = 8
+abbrev pub lineOfEntry : ℕ
+lineOfEntry = 8
 
 abbrev pub isEntry : Turn → Bool
-isEntry u = eqb (u .line) entryLine
+isEntry u = eqb (u .line) lineOfEntry
 
 unfoldable pub entriesIn : List Turn → ℕ
 entriesIn us = length (those isEntry us)

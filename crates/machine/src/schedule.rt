@@ -6,7 +6,7 @@ ghost use lib.Dec.{eqb};
 ghost use lib.ListN.{length, set};
 ghost use Rattle.table.specs.Tests.{within};
 ghost use Rattle.table.specs.Rules.{wellFormed};
-ghost use Rattle.machine.specs.Run.{courseOf, enteredIn, entryLine, waitingOf, answerOf, refusedRun, inFront};
+ghost use Rattle.machine.specs.Run.{courseOf, enteredIn, lineOfEntry, waitingOf, answerOf, refusedRun, inFront};
 ghost use Rattle.machine.specs.Run.{runOf, bufferOf};
 use crate::Ran;
 use crate::lines::advance;
@@ -79,8 +79,8 @@ fn ended(t: Table, moved: usize, entries: usize, place: usize, stop: u8) -> Ran
 // The entry of process i, where its step is one, goes into the buffer after those before it. Answers how many there are then.
 fn note_entry(entries: &mut [u8], count: usize, line: u8, i: u8) -> usize
     requires { ⌜ count < length (now entries) ⌝ }
-    ensures { λ c. ⌜ c ≡ count + cond (eqb line entryLine) 1 0 ⌝ }
-    ensures { λ _. ⌜ now (entries .exit) ≡ cond (eqb line entryLine) (set (now (entries .entry)) count i) (now (entries .entry)) ⌝ }
+    ensures { λ c. ⌜ c ≡ count + cond (eqb line lineOfEntry) 1 0 ⌝ }
+    ensures { λ _. ⌜ now (entries .exit) ≡ cond (eqb line lineOfEntry) (set (now (entries .entry)) count i) (now (entries .entry)) ⌝ }
 {
     if line == ENTRY_LINE {
         entries[count] = i;
