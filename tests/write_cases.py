@@ -3,6 +3,8 @@
     python3 tests/write_cases.py            writes crates/cases/data/NAME, crates/cases/args, crates/cases/stdout
     python3 tests/write_cases.py --check    writes nothing; says whether exactly these files stand there (else exit 1)
 
+It also writes crates/lister/stdin and stdout, for the program `lister`: an input that is longer than what it reads.
+
 A case file opens with its kind:
     F  a fresh table: algorithm, n
     S  a step: a table, a process
@@ -25,7 +27,9 @@ sys.dont_write_bytecode = True
 import bakery
 from bakery import BOUNDED, ROWS, TOKEN_LIMIT, UNBOUNDED, Row, fresh, largest_token
 
-FOLDER = os.path.join(os.path.dirname(os.path.dirname(os.path.abspath(__file__))), "crates", "cases")
+ROOT = os.path.dirname(os.path.dirname(os.path.abspath(__file__)))
+DATA = "crates/cases/data/"
+OTHER_FILES = ("crates/cases/args", "crates/cases/stdout", "crates/lister/stdin", "crates/lister/stdout")
 MACHINES = ((UNBOUNDED, "unbounded"), (BOUNDED, "bounded"))
 LONGEST_FILE = 65536
 SMALLEST, LARGEST = -2 ** 31, 2 ** 31 - 1
@@ -925,29 +929,41 @@ def fresh_cases(cases):
             cases.fresh("fresh-algorithm-%d-n-%d" % (algorithm, n), algorithm, n)
 
 
+# The samples.
+
+def sample_cases(cases):
+    """Each file of samples/, through the lister."""
+    for name in sorted(os.listdir(os.path.join(ROOT, "samples"))):
+        cases.lister("sample-" + name, contents("samples/" + name))
+
+
 def wanted_files():
-    """All files to write, by path under crates/cases, and the number of cases of each kind."""
+    """All files to write, by path, and the number of cases of each kind."""
     cases = Cases()
-    for add in (bench_cases, lister_cases, step_cases, ill_formed_cases, run_cases, fresh_cases):
+    for add in (bench_cases, lister_cases, step_cases, ill_formed_cases, run_cases, fresh_cases, sample_cases):
         add(cases)
-    files = {"data/" + name: data for name, data in cases.files.items()}
-    files["args"] = "".join(name + "\n" for name in cases.files).encode("ascii")
-    files["stdout"] = b"".join(expected(name, data) for name, data in cases.files.items())
+    far_more = bytes([BOUNDED, 3]) + bytes([2]) * 99998
+    files = {DATA + name: data for name, data in cases.files.items()}
+    files["crates/cases/args"] = "".join(name + "\n" for name in cases.files).encode("ascii")
+    files["crates/cases/stdout"] = b"".join(expected(name, data) for name, data in cases.files.items())
+    files["crates/lister/stdin"] = far_more
+    files["crates/lister/stdout"] = bakery.lister(far_more)
     kinds = [data[:1] for data in cases.files.values()]
     return files, [(word, kinds.count(kind)) for word, kind in
                    (("fresh", b"F"), ("step", b"S"), ("run", b"R"), ("lister", b"L"))]
 
 
+def contents(path):
+    with open(os.path.join(ROOT, path), "rb") as file:
+        return file.read()
+
+
 def standing_files():
-    """The files that stand under crates/cases and are this program's to write."""
-    data = os.path.join(FOLDER, "data")
-    paths = ["data/" + name for name in sorted(os.listdir(data))] if os.path.isdir(data) else []
-    paths += [path for path in ("args", "stdout") if os.path.exists(os.path.join(FOLDER, path))]
-    files = {}
-    for path in paths:
-        with open(os.path.join(FOLDER, path), "rb") as file:
-            files[path] = file.read()
-    return files
+    """The files that stand there and are this program's to write."""
+    data = os.path.join(ROOT, DATA)
+    paths = [DATA + name for name in sorted(os.listdir(data))] if os.path.isdir(data) else []
+    paths += [path for path in OTHER_FILES if os.path.exists(os.path.join(ROOT, path))]
+    return {path: contents(path) for path in paths}
 
 
 def check(wanted):
@@ -963,12 +979,12 @@ def check(wanted):
 
 
 def write(wanted):
-    os.makedirs(os.path.join(FOLDER, "data"), exist_ok=True)
+    os.makedirs(os.path.join(ROOT, DATA), exist_ok=True)
     for path in standing_files():
         if path not in wanted:
-            os.remove(os.path.join(FOLDER, path))
+            os.remove(os.path.join(ROOT, path))
     for path, data in wanted.items():
-        with open(os.path.join(FOLDER, path), "wb") as file:
+        with open(os.path.join(ROOT, path), "wb") as file:
             file.write(data)
 
 

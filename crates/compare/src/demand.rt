@@ -100,17 +100,12 @@ fn rows_agree(m: u32, unbounded: Table, bounded: Table) -> bool
     true
 }
 
-fn x_of(t: Table) -> Value
-    ensures { λ v. ⌜ v .0 ≡ t .x ⌝ }
-{
-    Value(t.x)
-}
-
 fn tables_agree(m: u32, unbounded: Table, bounded: Table) -> bool
     requires { ⌜ 0 < m ⌝ }
     ensures { λ b. ⌜ b ≡ agree m unbounded bounded ⌝ }
 {
-    is_remainder(m, x_of(unbounded), x_of(bounded)) & rows_agree(m, unbounded, bounded)
+    is_remainder(m, table::x_of(unbounded), table::x_of(bounded))
+        & rows_agree(m, unbounded, bounded)
 }
 
 // 1 if the process at place k stands at lines 8 to 10, else 0.

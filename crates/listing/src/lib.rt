@@ -71,11 +71,11 @@ fn put_counts(text: &mut [u8; LISTING_ROOM], at: usize, r: Ran) -> usize
     requires { ⌜ at + length (countsLine r) ≤ room ⌝ }
     ensures { λ e. ⌜ Written (now (text .entry)) at (countsLine r) (now (text .exit)) e ⌝ }
 {
-    let waited = put_numbered(text, at, b"moved ", r.moved);
-    let entries = put_numbered(text, waited, b" waited ", r.waited);
-    let waiting = put_numbered(text, entries, b" entries ", r.entries);
-    let stop = put_numbered(text, waiting, b" waiting ", r.waiting);
-    put_line(text, stop, b" stop ", number(r.stop))
+    let after_moved = put_numbered(text, at, b"moved ", r.moved);
+    let after_waited = put_numbered(text, after_moved, b" waited ", r.waited);
+    let after_entries = put_numbered(text, after_waited, b" entries ", r.entries);
+    let after_waiting = put_numbered(text, after_entries, b" waiting ", r.waiting);
+    put_line(text, after_waiting, b" stop ", number(r.stop))
 }
 
 // `refused N` alone.

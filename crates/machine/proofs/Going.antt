@@ -13,7 +13,7 @@ use Rattle.table.specs.declared.Table.{Table}
 use Rattle.table.proofs.Tests.{by-test}
 use Rattle.machine.specs.Step.{stepOf}
 use Rattle.machine.specs.Run.{Turn, turnOf, courseOf, those, isEntry, movedIn, waitedIn, entriesIn, enteredIn, waitingOf, answerOf, inFront}
-use Rattle.machine.specs.declared.Ran.{Ran}
+use Rattle.machine.specs.Ended.{endedRun}
 use Rattle.machine.proofs.Steps.{step-mark, step-well-formed, step-sized}
 use Rattle.machine.proofs.Counts.{moved-most, entries-most, moved-more, entries-more, noted}
 use Rattle.machine.proofs.Courses.{byte-taken, byte-refused, bytes-taken}
@@ -64,9 +64,7 @@ module _ {s b₀ b : List ℕ} {t₀ t : Table} {moved entered k : ℕ} (g : Goi
 
   -- so the answer of a course that ends here is what `ended` makes of it
   pub answered : (stop : ℕ) → courseOf t₀ s ≡ record { turns = g .turns; table = t; stop = stop }
-      → _≡_ {A = Ran}
-      (record { table = t; moved = moved; waited = k - moved; entries = entered; waiting = waitingOf t; place = k; stop = stop })
-      (answerOf (courseOf t₀ s))
+      → endedRun t moved entered k stop ≡ answerOf (courseOf t₀ s)
   answered stop e =
       (λ at. record {
         table = t;

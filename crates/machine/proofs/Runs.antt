@@ -52,6 +52,13 @@ course-sized t (i ∷ s) z =
     (λ _. course-sized (stepOf t i .table) s (step-sized t i z))
     (λ _. z)
 
+-- So the next run, from the last table of one, is not refused as a whole either, where its schedule and its buffer are right.
+pub next-accepted : (t : Table) (s b later next : List ℕ) → wellFormed t ≡ true → Sized t → runRefusal t s b ≡ noRefusal
+    → length later ≤ scheduleLimit → length later ≤ length next → runRefusal (runOf t s b .table) later next ≡ noRefusal
+next-accepted t s b later next w z accepted short room =
+    let last : runOf t s b .table ≡ courseOf t s .table = ap (λ (r : Ran). r .table) (run-answer t s b accepted) in
+    rw last (run-accepted (courseOf t s .table) later next (course-well-formed t s w z) short room)
+
 -- One run after another: the counts are added, and the table and what is waiting in it are the last one's.
 abbrev pub afterwards : Ran → Ran → Ran
 afterwards a b = record {
@@ -76,6 +83,14 @@ answer-begun c d =
       stop = d .stop;
     }
 
+-- the entries of a schedule stand before those of a later one
+entered-in-turn : (t : Table) (s later : List ℕ) → courseOf t s .stop ≡ noRefusal
+    → enteredIn (courseOf t (s ++ later) .turns)
+    ≡ enteredIn (courseOf t s .turns) ++ enteredIn (courseOf (courseOf t s .table) later .turns)
+entered-in-turn t s later going =
+    ap (λ (c : Course). enteredIn (c .turns)) (course-goes-on t s later going)
+    ∙ entered-append (courseOf t s .turns) (courseOf (courseOf t s .table) later .turns)
+
 -- A schedule followed by another, each run with a buffer of its own: the run over both is the two runs one after the other, so that a
 -- longer schedule is several runs, each from the last one's table. If a byte of the first is refused, the run over both ends there.
 module _ (t : Table) (s later buffer first : List ℕ) (both : runRefusal t (s ++ later) buffer ≡ noRefusal)
@@ -99,10 +114,12 @@ module _ (t : Table) (s later buffer first : List ℕ) (both : runRefusal t (s +
       let stop : courseOf t s .stop ≡ noRefusal → ⊥ = λ q. stopped (ap (λ (r : Ran). r .stop) a ∙ q) in
       run-answer t (s ++ later) buffer both ∙ ap answerOf (course-append t s later ∙ rw (ne-eqb _ noRefusal stop)) ∙ sym a
 
--- and the entries of the first stand before those of the second
-pub entered-in-turn : (t : Table) (s later : List ℕ) → courseOf t s .stop ≡ noRefusal
-    → enteredIn (courseOf t (s ++ later) .turns)
-    ≡ enteredIn (courseOf t s .turns) ++ enteredIn (courseOf (courseOf t s .table) later .turns)
-entered-in-turn t s later going =
-    ap (λ (c : Course). enteredIn (c .turns)) (course-goes-on t s later going)
-    ∙ entered-append (courseOf t s .turns) (courseOf (courseOf t s .table) later .turns)
+  -- and in the buffer the entries of the first stand before those of the second
+  pub run-append-buffer : runOf t s first .stop ≡ noRefusal
+      → bufferOf t (s ++ later) buffer
+      ≡ inFront (enteredIn (courseOf t s .turns) ++ enteredIn (courseOf (runOf t s first .table) later .turns)) buffer
+  run-append-buffer going =
+      let a = run-answer t s first one in
+      let stop : courseOf t s .stop ≡ noRefusal = ap (λ (r : Ran). r .stop) (sym a) ∙ going in
+      let last : runOf t s first .table ≡ courseOf t s .table = ap (λ (r : Ran). r .table) a in
+      run-buffer t (s ++ later) buffer both ∙ rw (last, entered-in-turn t s later stop)

@@ -3,3 +3,4 @@ pub mod Setters
 pub mod Step
 pub mod Ready
 pub mod Run
+pub mod Ended

@@ -117,13 +117,10 @@ lineStep line algorithm n i s r =
 unfoldable pub advanceOf : ℕ → ℕ → ℕ → Seen → Row → Advanced
 advanceOf algorithm n i s r = lineStep (r .line) algorithm n i s r
 
--- What a step sees: of another row the choosing flag and the token, and X.
-abbrev pub seenFrom : Table → Row → Seen
-seenFrom t other = record { choosing = other .choosing; token = other .token; x = t .x }
-
--- The step of row r sees the row of process j, j being its index. At index 0 no line looks at the flag or the token.
+-- What the step of row r sees: the choosing flag and the token of process j, j being its index, and X. At index 0 no line looks at the
+-- flag or the token.
 abbrev pub seenOf : Table → Row → Seen
-seenOf t r = seenFrom t (rowOf t (r .index))
+seenOf t r = record { choosing = rowOf t (r .index) .choosing; token = rowOf t (r .index) .token; x = t .x }
 
 -- The table after the step of process i: its row and X as the step leaves them.
 abbrev pub putBack : Table → ℕ → Advanced → Table

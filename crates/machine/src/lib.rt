@@ -1,4 +1,4 @@
-// The two machines of document 01: the unbounded (UB-Bakery) and the bounded (B-Bakery), one step at a time.
+// The two machines of document 01, the unbounded (UB-Bakery) and the bounded (B-Bakery): one step, and a run over a schedule.
 mod lines;
 mod numbers;
 mod schedule;
@@ -10,11 +10,12 @@ ghost use Prim.Native.Nat.{_≤_};
 ghost use Rattle.table.specs.Numbers.{slots};
 ghost use Rattle.table.specs.Rules.{rowOf};
 ghost use Rattle.machine.specs.Ready.{Ready};
-ghost use Rattle.machine.specs.Step.{seenFrom, refusedStep, takenOf, stepOf};
+ghost use Rattle.machine.specs.Step.{refusedStep, takenOf, stepOf};
 use lines::advance;
 use numbers::place_of;
 use table::Row;
 use table::Table;
+use table::Value;
 use table::refusal;
 
 // What a step sees outside its own row: of the process at its index the choosing flag and the token, and X. It is public, as `Advanced` is,
@@ -51,14 +52,14 @@ pub struct Ran {
     pub stop: u8,
 }
 
-// What a step sees of the table and of the row at its index.
-fn seen_of(t: Table, other: Row) -> Seen
-    ensures { λ s. ⌜ s ≡ seenFrom t other ⌝ }
+// What a step sees: X, and of the row at its index the choosing flag and the token.
+fn seen_of(x: Value, other: Row) -> Seen
+    ensures { λ s. ⌜ s ≡ record { choosing = other .choosing; token = other .token; x = x .0 } ⌝ }
 {
     Seen {
         choosing: other.choosing,
         token: other.token,
-        x: t.x,
+        x: x.0,
     }
 }
 
@@ -82,7 +83,7 @@ fn taken(t: Table, i: u8) -> Stepped
     let r = t.rows[k];
     let j = place_of(r.index);
     let other = t.rows[j];
-    let a = advance(t.algorithm, t.n, i, seen_of(t, other), r);
+    let a = advance(t.algorithm, t.n, i, seen_of(Value(t.x), other), r);
     let row = a.row;
     let mut after = t;
     after.rows[k] = row;

@@ -8,6 +8,7 @@ ghost use Rattle.table.specs.Tests.{within};
 ghost use Rattle.table.specs.Rules.{wellFormed};
 ghost use Rattle.machine.specs.Run.{courseOf, enteredIn, lineOfEntry, waitingOf, answerOf, refusedRun, inFront};
 ghost use Rattle.machine.specs.Run.{runOf, bufferOf};
+ghost use Rattle.machine.specs.Ended.{endedRun};
 use crate::Ran;
 use crate::lines::advance;
 use crate::numbers::place_of;
@@ -15,6 +16,7 @@ use crate::seen_of;
 use table::SCHEDULE_LIMIT;
 use table::SLOTS;
 use table::Table;
+use table::Value;
 use table::refusal;
 
 // The line whose step is the entry.
@@ -59,10 +61,10 @@ fn refused(t: Table, stop: u8) -> Ran
     }
 }
 
-// The answer of a run that ends in table t with the byte at this place; the bytes taken that did not move waited.
+// The answer of a run that ends in table t at this place, the number of bytes taken; those that did not move waited.
 fn ended(t: Table, moved: usize, entries: usize, place: usize, stop: u8) -> Ran
     requires { ⌜ moved ≤ place ⌝ }
-    ensures { λ r. ⌜ r ≡ record { table = t; moved = moved; waited = place - moved; entries = entries; waiting = waitingOf t; place = place; stop = stop } ⌝ }
+    ensures { λ r. ⌜ r ≡ endedRun t moved entries place stop ⌝ }
 {
     let waiting = waiting_in(t);
     Ran {
@@ -117,7 +119,7 @@ fn course(start: Table, schedule: &[u8], entries: &mut [u8]) -> Ran
         let r = t.rows[p];
         let j = place_of(r.index);
         let other = t.rows[j];
-        let a = advance(t.algorithm, t.n, i, seen_of(t, other), r);
+        let a = advance(t.algorithm, t.n, i, seen_of(Value(t.x), other), r);
         if a.stop != refusal::NO_REFUSAL {
             return ended(t, moved, entered, k, a.stop);
         }

@@ -16,6 +16,7 @@ pub use rules::pivot_ok;
 pub use rules::token_of;
 pub use rules::token_ok;
 pub use rules::well_formed;
+pub use rules::x_of;
 pub use rules::x_ok;
 ghost use mathlib.Core.Path.{_≡_};
 ghost use Rattle.table.specs.Fresh.{freshTable, refusedFresh, freshOf};

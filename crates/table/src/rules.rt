@@ -158,13 +158,13 @@ pub fn cell_ok(top: Value, may: bool, cell: Value) -> bool
     cell.is_none()
 }
 
-fn x_of(t: Table) -> Value
+// X of a table, and the token of a row and its pivot.
+pub fn x_of(t: Table) -> Value
     ensures { λ v. ⌜ v .0 ≡ t .x ⌝ }
 {
     Value(t.x)
 }
 
-// The token of a row, and its pivot.
 pub fn token_of(r: Row) -> Value
     ensures { λ v. ⌜ v .0 ≡ r .token ⌝ }
 {

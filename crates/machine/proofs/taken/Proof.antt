@@ -40,7 +40,7 @@ seen-of-requires : tie.Need-seen-of-requires
 seen-of-requires c κs = search needs
 
 advance-requires : tie.Need-advance-requires
-advance-requires c κs = rw (c .before .before .before .before .place-of .ensures) (c .before .before .before .before .before .pre .1)
+advance-requires c κs = rw (c .before .before .before .before .before .place-of .ensures) (c .before .before .before .before .before .before .pre .1)
 
 mul-row : tie.Need-mul-row
 mul-row c = search needs
@@ -48,13 +48,17 @@ mul-row c = search needs
 element-set-from-row : tie.Need-element-set-from-row
 element-set-from-row c = search needs
 
+-- X is a number of the table
+x-fits : (c : tie.Start) → SFits w32 (c .args .t1 .x)
+x-fits c = search needs
+
 returns : tie.Need-returns
 unfolding takenOf
 returns c =
     let a = c .before .before in
-    let other = a .before .before .before in
+    let other = a .before .before .before .before in
     let f : SFits w32 (a .advance .result .x) = search needs in
-    rw (toZ-ofZ f, a .advance .ensures, a .before .seen-of .ensures, other .place-of2 .ensures, other .before .before .place-of .ensures)
+    rw (toZ-ofZ f, a .advance .ensures, a .before .seen-of .ensures, toZ-ofZ (x-fits (other .before .before .before)), other .place-of2 .ensures, other .before .before .place-of .ensures)
 
 pub taken-spec : {M : Type 1} → statement M
 taken-spec =

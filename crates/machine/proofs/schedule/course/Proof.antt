@@ -102,33 +102,34 @@ seen-of-requires c κs = search needs
 
 advance-requires : tie.Need-advance-requires Inv-loop μ-loop
 advance-requires c κs =
-    let own = c .before .before .before .before in
+    let own = c .before .before .before .before .before in
     rw (own .place-of .ensures) (process (own .before) .1)
 
 -- Its step is what `advance` answers, put back.
 stepped : (c : tie.After-advance Inv-loop μ-loop)
-    → let loop = c .before .before .before .before .before .before .before .before .before .before in
+    → let loop = c .before .before .before .before .before .before .before .before .before .before .before in
     let t = loop .loop .t in
     let i = getD (loop .before .before .before .args .schedule .now) (loop .loop .k) 0 in
     let a = c .advance .result in
     stepOf t i ≡ record { table = putBack t i a; mark = a .mark; stop = a .stop }
 unfolding takenOf
 stepped c =
-    let other = c .before .before .before in
+    let other = c .before .before .before .before in
     let number = other .before .before .before in
+    let x : SFits w32 (number .before .before .before .before .loop .t .x) = search needs in
     step-taken _ _ (number .before .before .before .before .loop .inv .formed) (is-number number)
-    ∙ rw (c .advance .ensures, c .before .seen-of .ensures, other .place-of2 .ensures, other .before .before .place-of .ensures)
+    ∙ rw (c .advance .ensures, c .before .seen-of .ensures, toZ-ofZ x, other .place-of2 .ensures, other .before .before .place-of .ensures)
 
 ended-requires-2 : tie.Need-ended-requires-2 Inv-loop μ-loop
-ended-requires-2 c κs = moved-few (c .before .before .before .before .before .before .before .before .before .before .before .before .loop .inv)
+ended-requires-2 c κs = moved-few (c .before .before .before .before .before .before .before .before .before .before .before .before .before .loop .inv)
 
 same-length-2 : tie.Need-same-length-2 Inv-loop μ-loop
-same-length-2 c = c .before .before .before .before .before .before .before .before .before .before .before .before .before .loop .inv .same
+same-length-2 c = c .before .before .before .before .before .before .before .before .before .before .before .before .before .before .loop .inv .same
 
 returns-2 : tie.Need-returns-2 Inv-loop μ-loop
 returns-2 c =
     let answer = c .before .before .before in
-    let turn = answer .before .before .before .before .before .before .before .before .before in
+    let turn = answer .before .before .before .before .before .before .before .before .before .before in
     let g = turn .before .loop .inv in
     let stop = ap (λ (r : Stepped). r .stop) (stepped answer) in
     let e = rw stop at (stops g (turn .loop-test .taken) (λ q. c .before .if2 .taken (sym stop ∙ q))) in
@@ -136,7 +137,7 @@ returns-2 c =
 
 note-entry-requires : tie.Need-note-entry-requires Inv-loop μ-loop
 note-entry-requires c κs =
-    let turn = c .before .before .before .before .before .before .before .before .before .before .before .before in
+    let turn = c .before .before .before .before .before .before .before .before .before .before .before .before .before in
     let g = turn .before .loop .inv in
     omega (arith, entered-few g, g .same, turn .loop-test .taken, turn .before .before .before .before .pre .1)
 
@@ -146,28 +147,28 @@ count-of-requires c κs = search needs
 add-moved : tie.Need-add-moved Inv-loop μ-loop
 add-moved c =
     let answer = c .before .before .before .before .before .before .before in
-    let turn = answer .before .before .before .before .before .before .before .before .before in
+    let turn = answer .before .before .before .before .before .before .before .before .before .before in
     let one : answer .advance .result .mark ≤ 1 = rw (← ap (λ (r : Stepped). r .mark) (stepped answer)) (step-mark-most _ _) in
     let few = moved-few (turn .before .loop .inv) in
     omega (arith, c .count-of .ensures, one, few, turn .loop-test .taken, turn .before .before .before .before .good)
 
 mul-row : tie.Need-mul-row Inv-loop μ-loop
-mul-row c = omega (arith, own-slot (c .before .before .before .before .before .before .before .before .before .before .before .before .before))
+mul-row c = omega (arith, own-slot (c .before .before .before .before .before .before .before .before .before .before .before .before .before .before))
 
 element-set-from-row : tie.Need-element-set-from-row Inv-loop μ-loop
-element-set-from-row c = own-slot (c .before .before .before .before .before .before .before .before .before .before .before .before .before)
+element-set-from-row c = own-slot (c .before .before .before .before .before .before .before .before .before .before .before .before .before .before)
 
 loop-less : tie.Need-loop-less Inv-loop μ-loop
 loop-less c =
     let answer = c .before .before .before .before .before .before .before .before .before in
-    omega (arith, answer .before .before .before .before .before .before .before .before .before .loop-test .taken)
+    omega (arith, answer .before .before .before .before .before .before .before .before .before .before .loop-test .taken)
 
 loop-again : tie.Need-loop-again Inv-loop μ-loop
 loop-again c =
     let count = c .before .before in
     let note = count .before .before .before in
     let answer = note .before .before .before .before in
-    let own = answer .before .before .before .before .before in
+    let own = answer .before .before .before .before .before .before in
     let turn = own .before .before .before .before in
     let x : SFits w32 (answer .advance .result .x) = search needs in
     let step = stepped answer in
