@@ -49,6 +49,7 @@ course-append t (i ∷ s) later =
     by-bool true e onward = ap (begunBy one) onward ∙ begun-on one later (courseOf next s)
     by-bool false e onward = rw e
 
+-- where no byte of the first is refused
 pub course-goes-on : (t : Table) (s later : List ℕ) → courseOf t s .stop ≡ noRefusal
     → courseOf t (s ++ later) ≡ begunBy (courseOf t s .turns) (courseOf (courseOf t s .table) later)
 course-goes-on t s later going = course-append t s later ∙ rw (eq-eqb _ noRefusal going)

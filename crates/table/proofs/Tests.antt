@@ -8,7 +8,7 @@ use native.Mathlib.Nat.{le-of-suc-le-suc, eq-or-lt-of-le}
 use native.Mathlib.Numerals.{add-one}
 use borrow.Author.Tests.{le-leb, leb-true, not-true, not-false}
 use lib.Dec.{leb}
-use Rattle.table.specs.Tests.{within, every}
+use Rattle.table.specs.Tests.{within, every, howMany}
 
 -- a choice by a test has what both its sides have, each where it is chosen
 pub by-test : {A : Type 0} (P : A → Type 0) (t : Bool) {x y : A} → (t ≡ true → P x) → (t ≡ false → P y) → P (cond t x y)
@@ -76,3 +76,8 @@ module _ (f : ℕ → Bool) where
   pub every-stops : (k m : ℕ) {t : Bool} → k < m → t ≡ f (k + 1) → not t ≡ true → false ≡ every f m
   every-stops k m l h taken =
       sym (not-yes (every f m) (λ all. false≢true (sym (failed h taken) ∙ every-at (k + 1) m (omega arith) (omega arith) all)))
+
+  -- A loop that counts the numbers, with c so far and w for k + 1.
+  pub many-more : (k : ℕ) {c w : ℕ} → c ≡ howMany f k → w ≡ cond (f (k + 1)) 1 0 → c + w ≡ howMany f (k + 1)
+  unfolding howMany
+  many-more k e h = rw (e, h, add-one k)

@@ -1,9 +1,9 @@
 -- `at_most_one` meets its contract. The loop's invariant: the count is that of the rows passed.
 use Prim.Native.Nat.{_≤_, _-_}
 use mathlib.Core.Path.{_≡_, refl}
-use native.Mathlib.Numerals.{add-one}
 use Rattle.table.specs.Numbers.{slots}
 use Rattle.table.specs.Tests.{howMany}
+use Rattle.table.proofs.Tests.{many-more}
 use Rattle.compare.specs.Demand.{isCritical, atMostOne}
 use borrow.Author.Needs.{needs}
 use native.Mathlib.Omega.{arith}
@@ -33,10 +33,9 @@ loop-less : tie.Need-loop-less Inv-loop μ-loop
 loop-less c = search needs
 
 loop-again : tie.Need-loop-again Inv-loop μ-loop
-unfolding howMany
 loop-again c =
-    let k = c .before .before .loop .k in
-    (omega arith, omega arith, rw (c .critical-at .ensures .0, add-one k, c .before .before .loop .inv .2))
+    let b = c .before .before in
+    (omega arith, omega arith, many-more _ (b .loop .k) (b .loop .inv .2) (c .critical-at .ensures .0))
 
 returns : tie.Need-returns Inv-loop μ-loop
 unfolding atMostOne

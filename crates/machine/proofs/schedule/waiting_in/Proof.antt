@@ -1,9 +1,9 @@
 -- `waiting_in` meets its contract. The loop's invariant: the rows passed that wait are counted.
-use Prim.Native.Nat.{suc, _≤_, _-_}
+use Prim.Native.Nat.{_+_, _-_, _≤_}
 use mathlib.Core.Path.{_≡_, refl}
-use native.Mathlib.Numerals.{add-one}
 use Rattle.table.specs.Numbers.{slots}
 use Rattle.table.specs.Tests.{howMany}
+use Rattle.table.proofs.Tests.{many-more}
 use Rattle.machine.specs.Run.{isWaiting}
 use borrow.Author.Needs.{needs}
 use native.Mathlib.Omega.{arith}
@@ -39,11 +39,10 @@ loop-less : tie.Need-loop-less Inv-loop μ-loop
 loop-less c = search needs
 
 loop-again : tie.Need-loop-again Inv-loop μ-loop
-unfolding howMany
 loop-again c =
     let b = c .before .before in
-    let same : suc (b .loop .k) - 1 ≡ b .loop .k = omega arith in
-    (omega arith, omega arith, rw (add-one, same, ← b .loop .inv .2, c .waits-at .ensures .0))
+    let same : b .loop .k + 1 - 1 ≡ b .loop .k = omega arith in
+    (omega arith, omega arith, many-more _ (b .loop .k) (b .loop .inv .2) (rw same (c .waits-at .ensures .0)))
 
 returns : tie.Need-returns Inv-loop μ-loop
 returns c =
