@@ -1,7 +1,8 @@
 """The bakery machines of document 01 in plain Python: a second implementation to compare the product's answers with.
 
 Every call takes every input of its types (a byte for algorithm, n, line, index, choosing and process; four signed
-bytes for X, token, pivot and read cells), and none of them changes the table it is given, save `advance`.
+bytes for X, token, pivot and read cells; any bytes for a schedule and a stored form), and none of them changes the
+table it is given, save `advance` and `checks_of`.
 The words in quotation marks are document 01's.
 """
 
@@ -16,6 +17,8 @@ BOUNDED = 1
 
 Step = namedtuple("Step", "table mark stop")
 Run = namedtuple("Run", "table moved waited entries waiting place stop buffer")
+Write = namedtuple("Write", "length stop buffer")
+Read = namedtuple("Read", "table stop place")
 
 
 class Row:
@@ -93,60 +96,83 @@ def largest_token(algorithm, n):
 def fresh(algorithm, n):
     """The fresh table and the stop number."""
     # "Fresh: 1, 2." "refused, fresh and read show, in the table's place, the fresh unbounded table for n = 1"
-    if algorithm not in (UNBOUNDED, BOUNDED):
+    if not algorithm_kept(algorithm):
         return Table(UNBOUNDED, 1), 1
-    if not 1 <= n <= ROWS:
+    if not n_kept(n):
         return Table(UNBOUNDED, 1), 2
     return Table(algorithm, n), 0
 
 
+# The rules of a well-formed table, field by field. A rule looks at no field that comes later in the stored form.
+
+def algorithm_kept(algorithm):
+    # "algorithm is 0 or 1"
+    return algorithm in (UNBOUNDED, BOUNDED)
+
+
+def n_kept(n):
+    # "n is 1 to 16"
+    return 1 <= n <= ROWS
+
+
+def x_kept(t):
+    # "X is 0 to T"
+    return 0 <= t.x <= largest_token(t.algorithm, t.n)
+
+
+def line_kept(t, process):
+    # "in rows 1 to n, line is 1 to 10"
+    return 1 <= t.row(process).line <= 10
+
+
+def index_kept(t, process):
+    # "index is 1 to n at line 2, 1 to n and not the row's own number at lines 6 and 7, and 0 at the other lines"
+    row = t.row(process)
+    if row.line == 2:
+        return 1 <= row.index <= t.n
+    if row.line in (6, 7):
+        return 1 <= row.index <= t.n and row.index != process
+    return row.index == 0
+
+
+def choosing_kept(t, process):
+    # "choosing is 1 at lines 2 to 5 and 0 at the others"
+    row = t.row(process)
+    return row.choosing == (1 if 2 <= row.line <= 5 else 0)
+
+
+def token_kept(t, process):
+    # "token is -1 at lines 1 to 4 and 0 to T at lines 5 to 10"
+    row = t.row(process)
+    return row.token == -1 if row.line <= 4 else 0 <= row.token <= largest_token(t.algorithm, t.n)
+
+
+def pivot_kept(t, process):
+    # "pivot is 0 to T at line 4 and -1 at the others"
+    row = t.row(process)
+    return 0 <= row.pivot <= largest_token(t.algorithm, t.n) if row.line == 4 else row.pivot == -1
+
+
+def cell_kept(t, process, j):
+    # "read cells are -1 to T at lines 2 to 4 and -1 at the others. At line 2 those from the index on are -1. The row's
+    # own cell and cells above n are -1"
+    row = t.row(process)
+    may_hold_token = 2 <= row.line <= 4 and not (row.line == 2 and j >= row.index) and j != process and j <= t.n
+    return -1 <= row.cells[j - 1] <= (largest_token(t.algorithm, t.n) if may_hold_token else -1)
+
+
+def row_kept(t, process):
+    """Whether the row of a process 1 to n keeps all rules."""
+    rules = (line_kept, index_kept, choosing_kept, token_kept, pivot_kept)
+    return all(rule(t, process) for rule in rules) and all(cell_kept(t, process, j) for j in range(1, ROWS + 1))
+
+
 def well_formed(t):
     """Whether the table is well formed."""
-    # "algorithm is 0 or 1, n is 1 to 16, X is 0 to T"
-    if t.algorithm not in (UNBOUNDED, BOUNDED) or not 1 <= t.n <= ROWS:
+    if not (algorithm_kept(t.algorithm) and n_kept(t.n) and x_kept(t)):
         return False
-    if not 0 <= t.x <= largest_token(t.algorithm, t.n):
-        return False
-    for process in range(1, ROWS + 1):
-        row = t.row(process)
-        if process <= t.n:
-            if not _row_well_formed(t, process, row):
-                return False
-        # "rows above n are as in a fresh table"
-        elif row != Row():
-            return False
-    return True
-
-
-def _row_well_formed(t, process, row):
-    """Whether the row of a process 1 to n keeps the rules of a well-formed table."""
-    top = largest_token(t.algorithm, t.n)
-    line = row.line
-    # "in rows 1 to n, line is 1 to 10"
-    if not 1 <= line <= 10:
-        return False
-    # "index is 1 to n at line 2, 1 to n and not the row's own number at lines 6 and 7, and 0 at the other lines"
-    if line == 2:
-        index_kept = 1 <= row.index <= t.n
-    elif line in (6, 7):
-        index_kept = 1 <= row.index <= t.n and row.index != process
-    else:
-        index_kept = row.index == 0
-    # "choosing is 1 at lines 2 to 5 and 0 at the others"
-    choosing_kept = row.choosing == (1 if 2 <= line <= 5 else 0)
-    # "token is -1 at lines 1 to 4 and 0 to T at lines 5 to 10"
-    token_kept = row.token == -1 if line <= 4 else 0 <= row.token <= top
-    # "pivot is 0 to T at line 4 and -1 at the others"
-    pivot_kept = 0 <= row.pivot <= top if line == 4 else row.pivot == -1
-    if not (index_kept and choosing_kept and token_kept and pivot_kept):
-        return False
-    for j in range(1, ROWS + 1):
-        # "read cells are -1 to T at lines 2 to 4 and -1 at the others. At line 2 those from the index on are -1.
-        # The row's own cell and cells above n are -1"
-        may_hold_token = 2 <= line <= 4 and not (line == 2 and j >= row.index) and j != process and j <= t.n
-        if not -1 <= row.cells[j - 1] <= (top if may_hold_token else -1):
-            return False
-    return True
+    # "rows above n are as in a fresh table"
+    return all(row_kept(t, process) for process in range(1, t.n + 1)) and all(row == Row() for row in t.rows[t.n:])
 
 
 def next_token(t, row):
@@ -282,6 +308,100 @@ def run(t, schedule, entries_buffer):
     # "waiting is the number of rows at line 6 or 7 in the last table"
     waiting = sum(1 for row in after.rows if row.line in (6, 7))
     return Run(after, moved, waited, entries, waiting, place, stop, bytes(buffer))
+
+
+# The stored form.
+
+def form_length(n):
+    """The length of the stored form of n processes: "Length 7 + 79n"."""
+    return 7 + 79 * n
+
+
+def four_bytes(number):
+    # "Numbers of four bytes are little-endian; -1 is four bytes of 255."
+    return number.to_bytes(4, "little", signed=True)
+
+
+def number_at(form, place):
+    """The number of the four bytes at a place; from 2^31 on it is below 0, where no rule allows any but -1."""
+    return int.from_bytes(form[place:place + 4], "little", signed=True)
+
+
+def stored_form(t):
+    """The stored form of a table, well formed or not; n is 1 to 16."""
+    # "kind 1, body 6: algorithm, n, X (4)"
+    parts = [bytes([1, t.algorithm, t.n]), four_bytes(t.x)]
+    # "Order: kind 1, then for each process 1 to n kind 2 and kind 3."
+    for process in range(1, t.n + 1):
+        row = t.row(process)
+        # "kind 2, body 12: process number, line, index, choosing, token (4), pivot (4)"
+        parts += [bytes([2, process, row.line, row.index, row.choosing]), four_bytes(row.token), four_bytes(row.pivot)]
+        # "kind 3, body 65: process number, sixteen read cells (4 each)"
+        parts += [bytes([3, process])] + [four_bytes(cell) for cell in row.cells]
+    return b"".join(parts)
+
+
+def write(t, lent_buffer):
+    """The table's stored form, written to a lent buffer; the buffer answered is another one."""
+    # "Write: 3, 8." "a refusal answers length 0" "Write leaves its buffer untouched."
+    stop = 0
+    if not well_formed(t):
+        stop = 3
+    elif len(lent_buffer) < form_length(t.n):
+        stop = 8
+    if stop:
+        return Write(0, stop, bytes(lent_buffer))
+    # "The writer fills the front of the lent buffer, touches nothing after it, and answers the length"
+    form = stored_form(t)
+    return Write(len(form), 0, form + bytes(lent_buffer[len(form):]))
+
+
+def read(form):
+    """The table of a stored form, the stop number and the place."""
+    table = Table(UNBOUNDED, 1)
+    for stop, place, passed in checks_of(form, table):
+        # "refused, fresh and read show, in the table's place, the fresh unbounded table for n = 1"
+        if not passed:
+            return Read(Table(UNBOUNDED, 1), stop, place)
+    # "An accepted read answers the table, stop number 0 and the form's length as the place."
+    return Read(table, 0, len(form))
+
+
+def checks_of(form, t):
+    """The checks of a stored form in their order: the stop number and the place if it fails, and whether it passes.
+
+    The fresh table is filled on the way. A check is asked for only when those before it have passed.
+    """
+    # "Read: under 7 bytes; head kind; head fields in byte order; 9 or 11 by length; then each record's kind and fields
+    # in byte order." "the place is its offending kind's or field's first byte. For 9 the place is the input's length,
+    # for 11 it is 7 + 79n."
+    yield 9, len(form), len(form) >= 7
+    yield 10, 0, form[0] == 1
+    t.algorithm, t.n, t.x = form[1], form[2], number_at(form, 3)
+    yield 12, 1, algorithm_kept(t.algorithm)
+    yield 12, 2, n_kept(t.n)
+    yield 12, 3, x_kept(t)
+    length = form_length(t.n)
+    yield 9, len(form), len(form) >= length
+    yield 11, length, len(form) <= length
+    for process in range(1, t.n + 1):
+        row = t.row(process)
+        at = form_length(process - 1)
+        yield 10, at, form[at] == 2
+        yield 12, at + 1, form[at + 1] == process
+        row.line, row.index, row.choosing = form[at + 2:at + 5]
+        row.token, row.pivot = number_at(form, at + 5), number_at(form, at + 9)
+        yield 12, at + 2, line_kept(t, process)
+        yield 12, at + 3, index_kept(t, process)
+        yield 12, at + 4, choosing_kept(t, process)
+        yield 12, at + 5, token_kept(t, process)
+        yield 12, at + 9, pivot_kept(t, process)
+        yield 10, at + 13, form[at + 13] == 3
+        yield 12, at + 14, form[at + 14] == process
+        for j in range(1, ROWS + 1):
+            place = at + 11 + 4 * j
+            row.cells[j - 1] = number_at(form, place)
+            yield 12, place, cell_kept(t, process, j)
 
 
 def lister(input_bytes):

@@ -10,14 +10,18 @@ A case file opens with its kind:
     S  a step: a table, a process
     R  a run: a table, the length of the lent buffer (2 bytes, little-endian), the schedule
     L  the lister: its standard input
-A table is algorithm, n, X and 16 rows of line, index, choosing, token, pivot and 16 read cells; X, token, pivot and
-read cells have 4 bytes (little-endian, two's complement), the others one. Before a run, byte k of the lent buffer holds
-100 + k % 100. The functions from `expected` on say what the program prints.
+    D  a read: the bytes of a stored form
+    W  a write: a table, the length of the lent buffer (2 bytes, little-endian)
+A table of S, R and W is algorithm, n, X and 16 rows of line, index, choosing, token, pivot and 16 read cells; X, token,
+pivot and read cells have 4 bytes (little-endian, two's complement), the others one. Before a run and before a write,
+byte k of the lent buffer holds 100 + k % 100. A table that is read is written again, to a buffer of the form's length,
+and what is written is read again. The functions from `expected` on say what the program prints.
 
 The quoted words are document 01's. Random choices come from the case's name alone, so a case stays as it is when others
 come and go.
 """
 
+import itertools
 import os
 import re
 import sys
@@ -26,6 +30,7 @@ sys.dont_write_bytecode = True
 
 import bakery
 from bakery import BOUNDED, ROWS, TOKEN_LIMIT, UNBOUNDED, Row, fresh, largest_token
+from bakery import form_length, four_bytes, stored_form
 
 ROOT = os.path.dirname(os.path.dirname(os.path.abspath(__file__)))
 DATA = "crates/cases/data/"
@@ -79,15 +84,22 @@ class Cases:
         self.add(name, b"F" + bytes([algorithm, n]))
 
     def step(self, name, table, process):
-        self.add(name, b"S" + stored(table) + bytes([process]))
+        self.add(name, b"S" + plain(table) + bytes([process]))
 
     def run(self, name, table, schedule, lent=None):
         """A run with a lent buffer of the length given, or else five bytes longer than the schedule."""
         lent = len(schedule) + 5 if lent is None else lent
-        self.add(name, b"R" + stored(table) + lent.to_bytes(2, "little") + bytes(schedule))
+        self.add(name, b"R" + plain(table) + lent.to_bytes(2, "little") + bytes(schedule))
 
     def lister(self, name, *parts):
         self.add(name, b"L" + b"".join(bytes(part) for part in parts))
+
+    def read(self, name, form):
+        self.add(name, b"D" + form)
+
+    def write(self, name, table, lent):
+        """A write to a lent buffer of the length given."""
+        self.add(name, b"W" + plain(table) + lent.to_bytes(2, "little"))
 
     def both(self, name, algorithm, n, schedule):
         """A schedule from a fresh table, once through the lister and once as a run."""
@@ -97,11 +109,7 @@ class Cases:
 
 # Tables as bytes, and back.
 
-def four_bytes(number):
-    return number.to_bytes(4, "little", signed=True)
-
-
-def stored(table):
+def plain(table):
     """The bytes of a table in a case file."""
     parts = [bytes([table.algorithm, table.n]), four_bytes(table.x)]
     for row in table.rows:
@@ -110,7 +118,7 @@ def stored(table):
     return b"".join(parts)
 
 
-def read_table(data):
+def plain_table(data):
     """The table at the front of the bytes, and the bytes after it."""
     place = 0
 
@@ -136,7 +144,8 @@ def expected(name, data):
     if kind == b"L":
         printed = bakery.lister(body)
     else:
-        lines = {b"F": fresh_lines, b"S": step_lines, b"R": run_lines}[kind](body)
+        lines_of = {b"F": fresh_lines, b"S": step_lines, b"R": run_lines, b"D": read_lines, b"W": write_lines}
+        lines = lines_of[kind](body)
         printed = "".join(line + "\n" for line in lines).encode("ascii")
     return b"== " + name.encode("ascii") + b"\n" + printed
 
@@ -147,22 +156,65 @@ def fresh_lines(body):
 
 
 def step_lines(body):
-    table, rest = read_table(body)
+    table, rest = plain_table(body)
     answer = bakery.step(table, rest[0])
     return ["mark %d stop %d" % (answer.mark, answer.stop)] + table_lines(answer.table)
 
 
 def run_lines(body):
-    table, rest = read_table(body)
-    lent = bytes(100 + k % 100 for k in range(int.from_bytes(rest[:2], "little")))
+    table, rest = plain_table(body)
+    lent = lent_buffer(int.from_bytes(rest[:2], "little"))
     answer = bakery.run(table, rest[2:], lent)
-    kept = [now == before for now, before in zip(answer.buffer, lent)][answer.entries:]
     return [
         "moved %d waited %d entries %d waiting %d place %d stop %d"
         % (answer.moved, answer.waited, answer.entries, answer.waiting, answer.place, answer.stop),
-        " ".join(["entered"] + [str(process) for process in answer.buffer[:answer.entries]]),
-        "kept %d of %d" % (sum(kept), len(kept)),
+        numbers_line("entered", answer.buffer[:answer.entries]),
+        kept_line(answer.buffer, lent, answer.entries),
     ] + table_lines(answer.table)
+
+
+def read_lines(form):
+    answer = bakery.read(form)
+    lines = read_answer_lines(answer)
+    if answer.stop == 0:
+        again = bakery.write(answer.table, lent_buffer(len(form))).buffer
+        lines.append("again %d of %d" % (equal_places(again, form), len(form)))
+    return lines
+
+
+def write_lines(body):
+    table, rest = plain_table(body)
+    lent = lent_buffer(int.from_bytes(rest, "little"))
+    answer = bakery.write(table, lent)
+    form = answer.buffer[:answer.length]
+    return [
+        "length %d stop %d" % (answer.length, answer.stop),
+        numbers_line("bytes", form),
+        kept_line(answer.buffer, lent, answer.length),
+    ] + read_answer_lines(bakery.read(form))
+
+
+def read_answer_lines(answer):
+    return ["stop %d place %d" % (answer.stop, answer.place)] + table_lines(answer.table)
+
+
+def lent_buffer(length):
+    """A lent buffer before it is written to."""
+    return bytes(100 + k % 100 for k in range(length))
+
+
+def equal_places(some, others):
+    """The number of places at which two rows of bytes are equal."""
+    return sum(a == b for a, b in zip(some, others))
+
+
+def numbers_line(word, numbers):
+    return " ".join([word] + [str(number) for number in numbers])
+
+
+def kept_line(now, before, written):
+    """How many bytes of a buffer are as before, of those after the written ones."""
+    return "kept %d of %d" % (equal_places(now[written:], before[written:]), len(before) - written)
 
 
 def table_lines(table):
@@ -235,6 +287,29 @@ def some_table(chance, algorithm, n, lines=None):
         line = chance.pick([line for line in range(1, 11) if n > 1 or line not in (6, 7)])
         rows[process] = some_row(chance, algorithm, n, process, (lines or {}).get(process, line))
     return table_of(algorithm, n, some_token(chance, algorithm, n), rows)
+
+
+def all_lines(chance, algorithm, n):
+    """A well-formed table whose processes stand at lines 2, 3, 4 and so on, after line 10 at line 1 again."""
+    return some_table(chance, algorithm, n, {i: 1 + i % 10 for i in range(1, n + 1)})
+
+
+def after_a_run(chance, algorithm, n):
+    """A table that a run reaches."""
+    schedule = bursty(chance, n, 30 * n + chance.below(30))
+    return bakery.run(fresh(algorithm, n)[0], schedule, bytes(len(schedule))).table
+
+
+def full_table(algorithm, n, number):
+    """A table with all rows at line 4, where X, the pivots and the read cells of other processes have the number."""
+    rows = {i: row_at(4, pivot=number, cells={j: number for j in others_than(i, n)}) for i in range(1, n + 1)}
+    return table_of(algorithm, n, number, rows)
+
+
+def second_of_two(line, number):
+    """A row of process 2 of 2 at the line given; token, pivot and read cell 1 have the number where they may."""
+    return row_at(line, index={2: 2, 6: 1, 7: 1}.get(line, 0), token=number if line >= 5 else -1,
+                  pivot=number if line == 4 else -1, cells={1: number} if 2 <= line <= 4 else {})
 
 
 # Schedules.
@@ -610,6 +685,7 @@ def value_of(what, table, process):
     named = {
         "above-n": table.n + 1,
         "own": process,
+        "t": largest_token(table.algorithm, table.n),
         "above-t": largest_token(table.algorithm, table.n) + 1,
         "minus-1": -1,
         "minus-2": -2,
@@ -736,7 +812,12 @@ def with_fault(chance, algorithm, field, line, what):
 
 
 def upper_row_faults(cases):
-    """Faults of "rows above n are as in a fresh table": each field alone, in row n + 1 or in row 16."""
+    for what, table in with_upper_row_faults():
+        cases.step("step-ill-" + what, table, 1)
+
+
+def with_upper_row_faults():
+    """Faults of "rows above n are as in a fresh table": each field alone, in row n + 1 or in row 16; name and table."""
     faults = (("line", "0"), ("line", "2"), ("line", "9"), ("index", "1"), ("choosing", "1"), ("token", "0"),
               ("token", "minus-2"), ("pivot", "0"), ("pivot", "minus-2"), ("cell-1", "0"), ("cell-16", "0"),
               ("cell-2", "minus-2"))
@@ -749,7 +830,7 @@ def upper_row_faults(cases):
             row.cells[int(field[5:]) - 1] = value_of(what, table, upper)
         else:
             setattr(row, field, value_of(what, table, upper))
-        cases.step("step-ill-row-%02d-above-%02d-%s-%s-%s" % (upper, n, field, what, machine), table, 1)
+        yield "row-%02d-above-%02d-%s-%s-%s" % (upper, n, field, what, machine), table
 
 
 def several_faults(cases):
@@ -937,10 +1018,452 @@ def sample_cases(cases):
         cases.lister("sample-" + name, contents("samples/" + name))
 
 
+# Stored forms, right and spoilt.
+
+def some_form(name, algorithm, n):
+    """The stored form of a well-formed table that depends on the name only."""
+    return stored_form(some_table(Chance(name), algorithm, n))
+
+
+# The places of the fields: of the head in the form, and of a process's records from their first byte on.
+HEAD_PLACES = {"kind-1": 0, "algorithm": 1, "n": 2, "x": 3}
+RECORD_PLACES = {"kind-2": 0, "process-2": 1, "line": 2, "index": 3, "choosing": 4, "token": 5, "pivot": 9,
+                 "kind-3": 13, "process-3": 14, "cell-1": 15, "cell-8": 43, "cell-16": 75}
+
+
+def place_of(field, process=1):
+    """The place of a field of the head or of a process in a stored form."""
+    return HEAD_PLACES[field] if field in HEAD_PLACES else 7 + 79 * (process - 1) + RECORD_PLACES[field]
+
+
+def changed(form, place, *values):
+    """The form with other bytes from a place on."""
+    assert place + len(values) <= len(form)
+    return form[:place] + bytes(values) + form[place + len(values):]
+
+
+def spoilt(form, fault, process=1):
+    """The form with a fault: another length, or a number in a field that is never right."""
+    lengths = {"6-bytes": form[:6], "7-bytes": form[:7], "short": form[:-1], "long": form + bytes(1)}
+    if fault in lengths:
+        return lengths[fault]
+    four = fault in ("x", "token", "pivot") or fault.startswith("cell-")
+    return changed(form, place_of(fault, process), *((0, 0, 0, 128) if four else (200,)))
+
+
+# Stored forms to read.
+
+def read_cases(cases):
+    for algorithm, machine in MACHINES:
+        kept_forms(cases, algorithm, machine)
+        forms_at_the_ends(cases, algorithm, machine)
+        lengths_of_forms(cases, algorithm, machine)
+        other_heads(cases, algorithm, machine)
+        head_fields(cases, algorithm, machine)
+        record_fields(cases, algorithm, machine)
+        cells_of_forms(cases, algorithm, machine)
+        other_lines(cases, algorithm, machine)
+        other_orders(cases, algorithm, machine)
+        one_byte_changed(cases, algorithm, machine)
+        damaged_forms(cases, algorithm, machine)
+        random_forms(cases, algorithm, machine)
+    every_length(cases)
+    wrong_kinds(cases)
+    wrong_process_numbers(cases)
+    every_process(cases)
+    near_minus_1(cases)
+    two_faults(cases)
+    two_faults_apart(cases)
+
+
+def kept_forms(cases, algorithm, machine):
+    """Forms of well-formed tables: fresh, after a run, and mostly such as no run reaches."""
+    for n in range(1, ROWS + 1):
+        prefix = "form-%s-%02d-" % (machine, n)
+        cases.read(prefix + "fresh", stored_form(fresh(algorithm, n)[0]))
+        cases.read(prefix + "after-a-run", stored_form(after_a_run(Chance(prefix), algorithm, n)))
+        cases.read(prefix + "by-chance", some_form(prefix + "by-chance", algorithm, n))
+    for n in (10, 16):
+        name = "form-%s-%02d-all-lines" % (machine, n)
+        cases.read(name, stored_form(all_lines(Chance(name), algorithm, n)))
+
+
+def forms_at_the_ends(cases, algorithm, machine):
+    """Forms whose numbers stand at the ends of what is allowed: accepted."""
+    for what in ("0", "t"):
+        number = value_of(what, fresh(algorithm, 2)[0], 2)
+        for line in range(1, 11):
+            table = table_of(algorithm, 2, number, {2: second_of_two(line, number)})
+            cases.read("form-%s-02-line-%02d-numbers-%s" % (machine, line, what), stored_form(table))
+        table = full_table(algorithm, 16, value_of(what, fresh(algorithm, 16)[0], 1))
+        cases.read("form-%s-16-full-of-%s" % (machine, what), stored_form(table))
+    top = largest_token(algorithm, 1)
+    for line in (2, 3, 4, 5, 8, 9, 10):
+        row = row_at(line, index=1 if line == 2 else 0, token=top if line >= 5 else -1, pivot=top if line == 4 else -1)
+        cases.read("form-%s-01-line-%02d" % (machine, line), stored_form(table_of(algorithm, 1, 0, {1: row})))
+    # "At line 2 those from the index on are -1": the last cell before the index holds T; the index may be one's own.
+    top = largest_token(algorithm, 4)
+    for process, index in ((1, 3), (2, 1), (2, 2), (2, 4), (4, 4)):
+        before = [j for j in others_than(process, 4) if j < index]
+        row = row_at(2, index=index, cells={j: top for j in before[-1:]})
+        cases.read("form-%s-04-line-02-process-%d-index-%d" % (machine, process, index),
+                   stored_form(table_of(algorithm, 4, 0, {process: row})))
+
+
+def lengths_of_forms(cases, algorithm, machine):
+    """Refusals 9 and 11 by length; bytes after the end are the last process's records once more."""
+    for n, lengths in (
+        (1, (85, 87, 165)),
+        (2, (6, 7, 8, 85, 86, 87, 164, 166, 244)),
+        (16, (6, 7, 8, 85, 86, 87, 1270, 1272, 1350)),
+    ):
+        form = some_form("form-%s-%02d-cut" % (machine, n), algorithm, n)
+        for length in lengths:
+            cases.read("form-%s-%02d-of-%d-bytes" % (machine, n, length), (form + form[-79:])[:length])
+    cases.read("form-%s-01-and-256-bytes" % machine, stored_form(fresh(algorithm, 1)[0]) + bytes(256))
+
+
+def other_heads(cases, algorithm, machine):
+    """Heads that say one process more or fewer, or the other algorithm."""
+    for n, said in ((1, 2), (2, 1), (2, 3), (3, 2), (15, 16), (16, 15)):
+        name = "form-%s-%02d-said-to-be-%02d" % (machine, n, said)
+        table = some_table(Chance(name), algorithm, n)
+        table.x = 0
+        cases.read(name, changed(stored_form(table), place_of("n"), said))
+        # With the length that is due, some tokens may be above T and some indices above n.
+        table.n = said
+        cases.read(name + "-of-its-length", stored_form(table))
+        table.x = largest_token(algorithm, max(n, said))
+        cases.read(name + "-x-at-t", stored_form(table))
+    for n in (2, 3, 6):
+        name = "form-%s-%02d-said-to-be-the-other" % (machine, n)
+        table = some_table(Chance(name), algorithm, n)
+        table.algorithm, table.x = 1 - algorithm, 0
+        cases.read(name, stored_form(table))
+        table.x = largest_token(algorithm, n)
+        cases.read(name + "-x-at-t", stored_form(table))
+
+
+def head_fields(cases, algorithm, machine):
+    """Refusal 12 at a field of the head."""
+    prefix = "form-%s-02-" % machine
+    form = some_form(prefix, algorithm, 2)
+    for value in (2, 128, 255):
+        cases.read(prefix + "algorithm-%d" % value, changed(form, place_of("algorithm"), value))
+    for value in (0, 17, 128, 255):
+        cases.read(prefix + "n-%d" % value, changed(form, place_of("n"), value))
+    for n, what in itertools.product((1, 3), ("minus-1", "minus-2", "above-t", "smallest", "largest")):
+        table = fresh(algorithm, n)[0]
+        table.x = value_of(what, table, 1)
+        cases.read("form-%s-%02d-x-%s" % (machine, n, what), stored_form(table))
+    # A head that says 17, with the records of 17 processes.
+    form = some_form("form-%s-17" % machine, algorithm, 16)
+    form = changed(form, place_of("n"), 17) + changed(changed(form[-79:], 1, 17), 14, 17)
+    cases.read("form-%s-17-whole" % machine, form)
+
+
+# Further faults of rows, for forms only.
+MORE_FAULTS = (
+    ("index", (6, 7), ("255",)),
+    ("index", (1, 3, 8), ("255",)),
+    ("choosing", (1, 2, 4, 5, 6, 8, 9, 10), ("2",)),
+    ("choosing", (1, 2, 3, 4, 6, 7, 8, 9, 10), ("255",)),
+    ("token", (1, 2, 4), ("minus-2",)),
+    ("token", (1, 2, 3, 4), ("t",)),
+    ("token", (6, 8, 9), ("minus-2", "above-t")),
+    ("token", (5, 6), ("smallest", "largest")),
+    ("pivot", (4,), ("smallest",)),
+    ("pivot", (1, 2, 3, 5, 6, 7, 9, 10), ("minus-2",)),
+    ("pivot", (3, 5), ("t",)),
+    ("cell", (1, 5, 6, 7, 8, 10), ("minus-2",)),
+    ("cell", (2, 3), ("smallest", "largest")),
+    ("cell-at-index", (2,), ("t", "minus-2")),
+    ("cell-n", (2,), ("t",)),
+    ("own-cell", (2, 3, 4), ("t", "minus-2")),
+    ("cell-above-n", (2, 3, 4), ("t", "minus-2")),
+    ("cell-16", (2,), ("0",)),
+)
+
+
+def record_fields(cases, algorithm, machine):
+    """Refusal 12 at a field of a record, "a field that breaks its rule"."""
+    for field, lines, values in FAULTS + MORE_FAULTS:
+        for line, what in itertools.product(lines, values):
+            name = "form-line-%02d-%s-%s-%s" % (line, field, what, machine)
+            cases.read(name, stored_form(with_fault(Chance(name), algorithm, field, line, what)[0]))
+    # At n = 1 a row at line 6 or 7 has no right index.
+    for line, index in ((6, 0), (6, 1), (6, 2), (7, 0), (7, 1), (7, 2)):
+        table = table_of(algorithm, 1, 0, {1: row_at(line, index=index, token=0)})
+        cases.read("form-%s-01-line-%d-index-%d" % (machine, line, index), stored_form(table))
+
+
+def cells_of_forms(cases, algorithm, machine):
+    """Refusal 12 at the first, a middle and the last cell, and at each cell of one process."""
+    for process, j in itertools.product((1, 8, 16), (1, 8, 16)):
+        name = "form-%s-16-cell-%02d-of-process-%02d" % (machine, j, process)
+        table = some_table(Chance(name), algorithm, 16, {process: 3})
+        table.row(process).cells[j - 1] = 0 if j == process else largest_token(algorithm, 16) + 1
+        cases.read(name, stored_form(table))
+    for j in range(1, ROWS + 1):
+        table = table_of(algorithm, 1, 0, {1: row_at(4, pivot=0, cells={j: 0})})
+        cases.read("form-%s-01-cell-%02d" % (machine, j), stored_form(table))
+    # At line 2 a cell before the index and one from the index on.
+    row = row_at(2, index=3, cells={1: largest_token(algorithm, 4) + 1, 3: 0})
+    cases.read("form-%s-04-line-02-two-cells" % machine, stored_form(table_of(algorithm, 4, 0, {2: row})))
+
+
+def other_lines(cases, algorithm, machine):
+    """A row with another line than its fields': the fault is in the first field that does not suit the line."""
+    for line, said in itertools.product((1, 2, 3, 4, 5, 6, 8), range(1, 11)):
+        if line != said and (line + said) % 2 == algorithm:
+            row = second_of_two(line, 1)
+            row.line = said
+            cases.read("form-%s-02-line-%02d-said-to-be-%02d" % (machine, line, said),
+                       stored_form(table_of(algorithm, 2, 1, {2: row})))
+    # At line 2 another index makes a read cell wrong, or not.
+    for index in range(1, 6):
+        row = row_at(2, index=index, cells={1: 1, 3: 0, 4: -1})
+        cases.read("form-%s-05-line-02-index-said-to-be-%d" % (machine, index),
+                   stored_form(table_of(algorithm, 5, 1, {2: row})))
+
+
+def other_orders(cases, algorithm, machine):
+    """The right records in a wrong order: refused 10 by the kind, 12 by "a process number out of order"."""
+    prefix = "form-%s-03-" % machine
+    form = some_form(prefix, algorithm, 3)
+    head, records = form[:7], [form[k:k + 79] for k in (7, 86, 165)]
+    firsts, seconds = [record[:13] for record in records], [record[13:] for record in records]
+    orders = {
+        "2-1-3": [records[1], records[0], records[2]],
+        "1-3-2": [records[0], records[2], records[1]],
+        "1-1-3": [records[0], records[0], records[2]],
+        "1-2-2": [records[0], records[1], records[1]],
+        "all-of-kind-2-first": firsts + seconds,
+        "kind-3-first": [second + first for first, second in zip(firsts, seconds)],
+        "kind-3-of-another": [firsts[0], seconds[1], firsts[1], seconds[0], records[2]],
+    }
+    for what, order in orders.items():
+        cases.read(prefix + "order-" + what, head + b"".join(order))
+    cases.read(prefix + "order-head-last", b"".join(records) + head)
+
+
+def one_byte_changed(cases, algorithm, machine):
+    """One byte changed: every one of a form of one process, and some of longer forms. Some are still accepted."""
+    top = largest_token(algorithm, 1)
+    one = table_of(algorithm, 1, top // 7, {1: row_at(4, pivot=top // 3)})
+    for form, places in (
+        (stored_form(one), range(86)),
+        (some_form("form-%s-03-byte" % machine, algorithm, 3), range(2, form_length(3), 13)),
+        (some_form("form-%s-16-byte" % machine, algorithm, 16), range(5, form_length(16), 181)),
+    ):
+        for place in places:
+            name = "form-%s-%02d-byte-%04d-changed" % (machine, form[2], place)
+            cases.read(name, changed(form, place, (form[place] + 1 + Chance(name).below(255)) % 256))
+
+
+def damaged_forms(cases, algorithm, machine):
+    """Two or three changes anywhere in a form."""
+    for number in range(20):
+        name = "form-%s-damaged-%02d" % (machine, number)
+        chance = Chance(name)
+        n = 1 + chance.below(4)
+        form = stored_form(some_table(chance, algorithm, n))
+        for _ in range(2 + number % 2):
+            if chance.below(2):
+                form = spoilt(form, chance.pick(list(RECORD_PLACES)), 1 + chance.below(n))
+            else:
+                form = changed(form, chance.below(len(form)), chance.below(256))
+        cases.read(name, form)
+
+
+def random_forms(cases, algorithm, machine):
+    """Random bytes, random bytes after a right head, and random numbers in the fields of rows."""
+    for number in range(5):
+        name = "form-%s-random-%d" % (machine, number)
+        chance = Chance(name)
+        cases.read(name + "-all", bytes([number % 2] + [chance.below(256) for _ in range(chance.below(180))]))
+        table = fresh(algorithm, 1 + number % 3)[0]
+        head = stored_form(table)[:7]
+        cases.read(name + "-after-the-head", head + bytes(chance.below(256) for _ in range(79 * table.n)))
+        for row in table.rows:
+            row.line, row.index, row.choosing = 1 + chance.below(10), chance.below(table.n + 1), chance.below(2)
+            row.token, row.pivot = chance.below(3) - 1, chance.below(3) - 1
+            row.cells = [chance.below(3) - 1 for _ in range(ROWS)]
+        cases.read(name + "-fields", stored_form(table))
+
+
+def every_length(cases):
+    """Every length from 0 to 95 of a form of 86 bytes; the bytes after its end are 0 or come by chance."""
+    for length in range(96):
+        algorithm, machine = MACHINES[length % 2]
+        name = "form-length-%02d-%s" % (length, machine)
+        chance = Chance(name)
+        form = stored_form(some_table(chance, algorithm, 1))
+        more = bytes(9) if length % 4 < 2 else bytes(chance.below(256) for _ in range(9))
+        cases.read(name, (form + more)[:length])
+
+
+def wrong_kinds(cases):
+    """Refusal 10, "a kind byte other than the one due"."""
+    for n, processes, values in (
+        (1, (1,), (0, 1, 2, 3, 4, 255)),
+        (3, (1, 2, 3), (0, 1, 2, 3, 4, 255)),
+        (16, (1, 8, 16), (1,)),
+    ):
+        dues = [("kind-1", 1)] + [(field, process) for process in processes for field in ("kind-2", "kind-3")]
+        for (field, process), value in itertools.product(dues, values):
+            algorithm, machine = MACHINES[(process + value) % 2]
+            name = "form-%s-%02d-%s-of-process-%02d-is-%d" % (machine, n, field, process, value)
+            if field != "kind-%d" % value:
+                cases.read(name, changed(some_form(name, algorithm, n), place_of(field, process), value))
+    for process in (1, 2, 3):
+        algorithm, machine = MACHINES[process % 2]
+        name = "form-%s-03-kinds-of-process-%02d-swapped" % (machine, process)
+        form = changed(some_form(name, algorithm, 3), place_of("kind-2", process), 3)
+        cases.read(name, changed(form, place_of("kind-3", process), 2))
+
+
+def wrong_process_numbers(cases):
+    """Refusal 12, "a process number out of order"."""
+    for n, process in ((1, 1), (3, 1), (3, 2), (3, 3), (16, 1), (16, 8), (16, 16)):
+        values = {process - 1, process + 1} | (set() if n == 16 else {0, 255})
+        for field, value in itertools.product(("process-2", "process-3"), sorted(values)):
+            algorithm, machine = MACHINES[(process + value // 2) % 2]
+            name = "form-%s-%02d-%s-of-process-%02d-is-%d" % (machine, n, field, process, value)
+            cases.read(name, changed(some_form(name, algorithm, n), place_of(field, process), value))
+
+
+def every_process(cases):
+    """Refusal 12 in each row of sixteen, and at each field of the first, of a middle one and of the last."""
+    fields = enumerate(("line", "index", "choosing", "token", "pivot"))
+    for (count, field), process in itertools.product(fields, range(1, ROWS + 1)):
+        if process in (1, 8, 16) or process % 5 == count:
+            algorithm, machine = MACHINES[(process + count) % 2]
+            name = "form-%s-16-%s-of-process-%02d" % (machine, field, process)
+            cases.read(name, spoilt(some_form(name, algorithm, 16), field, process))
+
+
+def near_minus_1(cases):
+    """Four bytes that are nearly -1, or a number only if they are taken in another order or with a sign."""
+    patterns = ((0, 255, 255, 255), (255, 0, 255, 255), (255, 255, 0, 255), (255, 255, 255, 0), (255, 255, 255, 127),
+                (0, 0, 0, 128), (0, 0, 0, 1), (0, 0, 1, 0), (0, 1, 0, 0), (255, 0, 0, 0), (255, 255, 255, 255))
+    # Where a number may stand the machine is unbounded, so that some of them are kept.
+    fields = (("x", 1, UNBOUNDED), ("token", 8, UNBOUNDED), ("pivot", 4, UNBOUNDED), ("cell-1", 3, UNBOUNDED),
+              ("token", 3, BOUNDED), ("pivot", 8, BOUNDED), ("cell-1", 9, BOUNDED))
+    for (field, line, algorithm), pattern in itertools.product(fields, patterns):
+        form = stored_form(table_of(algorithm, 2, 0, {2: second_of_two(line, 1)}))
+        name = "form-02-line-%02d-%s-%d-%d-%d-%d" % ((line, field) + pattern)
+        cases.read(name, changed(form, place_of(field, 2), *pattern))
+
+
+def two_faults(cases):
+    """Two faults in a form of one process: all pairs, in the order of checks."""
+    order = ["6-bytes"] + list(HEAD_PLACES) + ["7-bytes", "short", "long"] + list(RECORD_PLACES)
+    for count, (first, second) in enumerate(itertools.combinations(order, 2)):
+        algorithm, machine = MACHINES[count % 2]
+        name = "form-%s-01-%s-and-%s" % (machine, first, second)
+        if (first, second) != ("short", "long"):
+            add_two_faults(cases, name, some_form(name, algorithm, 1), (first, 1), (second, 1))
+
+
+def two_faults_apart(cases):
+    """Two faults in the records of two processes, and in two cells of one process."""
+    pairs = []
+    for process, later in ((1, 2), (1, 3), (2, 3)):
+        chance = Chance("form-two-faults-of-%d-and-%d" % (process, later))
+        pairs += [(3, (first, process), (chance.pick(list(RECORD_PLACES)), later)) for first in RECORD_PLACES]
+    for n, process in ((3, 2), (16, 1), (16, 8), (16, 16)):
+        pairs += [(n, ("cell-1", process), ("cell-8", process)), (n, ("cell-8", process), ("cell-16", process))]
+    for count, (n, first, second) in enumerate(pairs):
+        algorithm, machine = MACHINES[count % 2]
+        name = "form-%s-%02d-%s-of-%d-and-%s-of-%d" % ((machine, n) + first + second)
+        add_two_faults(cases, name, some_form(name, algorithm, n), first, second)
+
+
+def add_two_faults(cases, name, form, first, second):
+    """A form with two faults, unless the first hides the second; the first is answered as if it were alone."""
+    alone, both = spoilt(form, *first), spoilt(spoilt(form, *second), *first)
+    assert bakery.read(both) == bakery.read(alone)
+    if both != alone:
+        cases.read(name, both)
+
+
+# Tables to write.
+
+def write_cases(cases):
+    for algorithm, machine in MACHINES:
+        for n in range(1, ROWS + 1):
+            prefix = "write-%s-%02d-buffer-" % (machine, n)
+            chance = Chance(prefix)
+            table = some_table(chance, algorithm, n)
+            cases.write(prefix + "equal", table, form_length(n))
+            cases.write(prefix + "one-short", table, form_length(n) - 1)
+            cases.write(prefix + "longer", after_a_run(chance, algorithm, n), form_length(n) + 1 + chance.below(9))
+        other_buffers(cases, algorithm, machine)
+        other_tables(cases, algorithm, machine)
+        ill_formed_heads(cases, algorithm, machine)
+        refused_3_before_8(cases, algorithm, machine)
+    ill_formed_rows(cases)
+
+
+def other_buffers(cases, algorithm, machine):
+    """Buffers far too short, which are refused 8, and one far longer than the form."""
+    for n, lengths in ((1, (0, 1, 7, 65535)), (2, (0, 86)), (4, (67, 255)), (16, (0, 247, 1192))):
+        for lent in lengths:
+            name = "write-%s-%02d-buffer-of-%d" % (machine, n, lent)
+            cases.write(name, some_table(Chance(name), algorithm, n), lent)
+
+
+def other_tables(cases, algorithm, machine):
+    """Fresh tables, one with all lines, and tables whose numbers stand at the ends of what is allowed."""
+    for n in (1, 2, 16):
+        cases.write("write-%s-%02d-fresh" % (machine, n), fresh(algorithm, n)[0], form_length(n) + 2)
+    name = "write-%s-10-all-lines" % machine
+    cases.write(name, all_lines(Chance(name), algorithm, 10), form_length(10))
+    for n, what in ((3, "0"), (3, "t"), (16, "t")):
+        table = full_table(algorithm, n, value_of(what, fresh(algorithm, n)[0], 1))
+        cases.write("write-%s-%02d-full-of-%s" % (machine, n, what), table, form_length(n) + 3)
+
+
+def ill_formed_heads(cases, algorithm, machine):
+    """Refusal 3 for each field of the head, with a buffer that is long enough."""
+    for field, what in (("algorithm", "2"), ("algorithm", "255"), ("n", "0"), ("n", "17"), ("n", "255"),
+                        ("x", "minus-1"), ("x", "above-t")):
+        table = fresh(algorithm, 2 + algorithm)[0]
+        setattr(table, field, value_of(what, table, 1))
+        cases.write("write-ill-%s-%s-%s" % (field, what, machine), table, 25000)
+
+
+def refused_3_before_8(cases, algorithm, machine):
+    """Tables that are not well formed, with a buffer that is too short."""
+    for field, what in (("n", "0"), ("n", "17"), ("x", "above-t")):
+        table = fresh(algorithm, 3)[0]
+        setattr(table, field, value_of(what, table, 1))
+        cases.write("write-ill-%s-%s-%s-no-buffer" % (field, what, machine), table, 0)
+    for lent in (0, 243):
+        name = "write-ill-own-cell-%s-buffer-of-%d" % (machine, lent)
+        table = some_table(Chance(name), algorithm, 3)
+        table.row(2).cells[1] = 0
+        cases.write(name, table, lent)
+
+
+def ill_formed_rows(cases):
+    """Refusal 3, each rule of a row broken once, with a buffer that is long enough."""
+    for count, (field, lines, values) in enumerate(FAULTS):
+        algorithm, machine = MACHINES[count % 2]
+        line, what = lines[count % len(lines)], values[count % len(values)]
+        name = "write-ill-line-%02d-%s-%s-%s" % (line, field, what, machine)
+        table = with_fault(Chance(name), algorithm, field, line, what)[0]
+        cases.write(name, table, form_length(table.n) + count % 3)
+    for what, table in with_upper_row_faults():
+        cases.write("write-ill-" + what, table, form_length(16))
+
+
 def wanted_files():
     """All files to write, by path, and the number of cases of each kind."""
     cases = Cases()
-    for add in (bench_cases, lister_cases, step_cases, ill_formed_cases, run_cases, fresh_cases, sample_cases):
+    for add in (bench_cases, lister_cases, step_cases, ill_formed_cases, run_cases, fresh_cases, sample_cases,
+                read_cases, write_cases):
         add(cases)
     far_more = bytes([BOUNDED, 3]) + bytes([2]) * 99998
     files = {DATA + name: data for name, data in cases.files.items()}
@@ -950,7 +1473,7 @@ def wanted_files():
     files["crates/lister/stdout"] = bakery.lister(far_more)
     kinds = [data[:1] for data in cases.files.values()]
     return files, [(word, kinds.count(kind)) for word, kind in
-                   (("fresh", b"F"), ("step", b"S"), ("run", b"R"), ("lister", b"L"))]
+                   (("fresh", b"F"), ("step", b"S"), ("run", b"R"), ("lister", b"L"), ("read", b"D"), ("write", b"W"))]
 
 
 def contents(path):

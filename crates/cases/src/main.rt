@@ -1,16 +1,18 @@
 // Runs the cases that its arguments name, a file each, and prints under each name what the library answers.
 // What it must print comes from a second machine, tests/bakery.py; tests/write_cases.py has the formats.
 mod answers;
+mod forms;
+mod lent;
 mod printing;
 mod reading;
+mod round_trips;
 
 use answers::put_not_a_case;
 use printing::end_line;
 use printing::put;
+use reading::LONGEST_CASE;
 
-// The longest case file. There is room for one byte more, so that a longer file shows.
-const LONGEST_CASE: usize = 65536;
-
+// Room for one byte more than the longest case has, so that a longer file shows.
 const CASE_ROOM: usize = LONGEST_CASE + 1;
 
 // The answer to a case by its kind, the first byte of the file.
@@ -30,6 +32,8 @@ fn put_answer(case: &[u8]) {
         b'S' => answers::put_step(body),
         b'R' => answers::put_run(body),
         b'L' => answers::put_listing(body),
+        b'D' => forms::put_read(body),
+        b'W' => forms::put_write(body),
         _ => put_not_a_case(),
     }
 }

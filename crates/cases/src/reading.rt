@@ -6,7 +6,10 @@ use table::Row;
 use table::SLOTS;
 use table::Table;
 
-// How many bytes a case file has for a number, and for each part of a table.
+// How many bytes a case file may have.
+pub(crate) const LONGEST_CASE: usize = 65536;
+
+// How many it has for a number, and for each part of a table.
 const NUMBER_LENGTH: usize = 4;
 
 const CELLS_LENGTH: usize = SLOTS * NUMBER_LENGTH;
@@ -20,6 +23,9 @@ const ROWS_LENGTH: usize = SLOTS * ROW_LENGTH;
 const HEAD_LENGTH: usize = 2 + NUMBER_LENGTH;
 
 pub(crate) const TABLE_LENGTH: usize = HEAD_LENGTH + ROWS_LENGTH;
+
+// A run and a write open with a table, and with the two bytes of the lent buffer's length.
+pub(crate) const OPENING_LENGTH: usize = TABLE_LENGTH + 2;
 
 fn digit(byte: u8) -> u32
     ensures { λ d. ⌜ d < 256 ⌝ }

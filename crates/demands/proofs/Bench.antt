@@ -15,7 +15,7 @@ use Rattle.table.specs.Rules.{cellOk, cellRule, cellsOk, rowOk, rowRule, rowsOk
 use Rattle.table.specs.Fresh.{allNone, freshRow, freshTable}
 use Rattle.table.specs.declared.Row.{Row}
 use Rattle.table.specs.declared.Table.{Table}
-use Rattle.table.proofs.Tests.{within-low, within-high, every-at}
+use Rattle.table.proofs.Tests.{_and_, within-low, within-high, every-at}
 use Rattle.table.proofs.WellFormed.{fresh-well-formed}
 use Rattle.machine.specs.Tokens.{remainder, largest, nextUb, shifted, shiftedCell, nextB, beforeUb, beforeB, nextToken, goesBefore}
 use Rattle.machine.specs.Setters.{withLine, withIndex, withToken}
@@ -162,10 +162,6 @@ empty-schedule = (empty unbounded refl, empty bounded refl)
     empty algorithm known n ok buffer = rw (fresh-well-formed algorithm n known ok, leb·zero (length buffer))
 
 -- The list.
-
-infixr 20 _and_
-_and_ : {A B : Type 0} → A → B → A × B
-a and b = (a, b)
 
 pub bench : allHold benchCases
 bench =

@@ -10,11 +10,12 @@ use Rattle.table.specs.Numbers.{slots, unbounded, bounded, none, tokenLimit}
 use Rattle.table.specs.Refusals.{noRefusal, badProcessNumber, aboveTokenLimit}
 use Rattle.table.specs.Rules.{rowOf, countOk}
 use Rattle.table.specs.Fresh.{allNone, freshRow, freshTable}
+use Rattle.table.specs.Lent.{inFront}
 use Rattle.table.specs.declared.Table.{Table}
 use Rattle.machine.specs.Tokens.{nextToken, goesBefore}
 use Rattle.machine.specs.Setters.{withLine, withChoosing, withPivot, withCells}
 use Rattle.machine.specs.Step.{refusedStep, stepOf}
-use Rattle.machine.specs.Run.{runOf, inFront, bufferOf}
+use Rattle.machine.specs.Run.{runOf, bufferOf}
 use Rattle.machine.specs.declared.Ran.{Ran}
 
 -- The words that the cases are written in.

@@ -7,7 +7,7 @@ use lib.ListN.{length, getD, take, drop, take-append-drop}
 use lib.Seq.{take-suc}
 use Rattle.listing.specs.Listing.{entryLine, entryLines}
 use Rattle.listing.specs.Room.{room}
-use Rattle.listing.proofs.Writing.{room-first}
+use Rattle.table.proofs.Writes.{room-first}
 
 lines-append : (ps qs : List ℕ) → entryLines (ps ++ qs) ≡ entryLines ps ++ entryLines qs
 unfolding entryLines

@@ -1,5 +1,4 @@
 pub mod Decimals
-pub mod Writing
 pub mod EntryLines
 pub mod Lengths
 pub mod Listings

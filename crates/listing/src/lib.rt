@@ -11,7 +11,7 @@ ghost use Rattle.table.specs.Rules.{wellFormed};
 ghost use Rattle.machine.specs.Run.{courseOf};
 ghost use Rattle.listing.specs.Listing.{refusedLine, bakeryLine, entryLine, entryLines, countsLine, report, listingOf};
 ghost use Rattle.listing.specs.Room.{room};
-ghost use Rattle.listing.specs.Written.{Written};
+ghost use Rattle.table.specs.Lent.{Written};
 use machine::Ran;
 use table::SCHEDULE_LIMIT;
 use table::Table;

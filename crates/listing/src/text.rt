@@ -5,7 +5,7 @@ ghost use Prim.Native.Nat.{_+_, _≤_};
 ghost use lib.ListN.{length};
 ghost use Rattle.listing.specs.Room.{room};
 ghost use Rattle.listing.specs.Text.{decimal, lineFeed};
-ghost use Rattle.listing.specs.Written.{Written};
+ghost use Rattle.table.specs.Lent.{Written};
 use crate::LISTING_ROOM;
 
 // The bytes of a word.

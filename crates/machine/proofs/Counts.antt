@@ -8,9 +8,10 @@ use native.Mathlib.Omega.{arith}
 use native.Mathlib.Numerals.{add-one}
 use lib.ListN.{length, getD, set, drop, length-append, length-map}
 use lib.Seq.{drop-cons, set-append-seam}
+use Rattle.table.specs.Lent.{inFront}
 use Rattle.table.proofs.Tests.{by-test, of-choice}
 use Rattle.machine.specs.Run.{Turn, those, changed, unchanged, isEntry}
-use Rattle.machine.specs.Run.{movedIn, waitedIn, entriesIn, enteredIn, inFront}
+use Rattle.machine.specs.Run.{movedIn, waitedIn, entriesIn, enteredIn}
 
 module _ (f : Turn → Bool) where
   those-append : (us vs : List Turn) → those f (us ++ vs) ≡ those f us ++ those f vs

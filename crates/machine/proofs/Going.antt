@@ -9,10 +9,11 @@ use lib.Seq.{take-all}
 use Rattle.table.specs.Refusals.{noRefusal}
 use Rattle.table.specs.Rules.{wellFormed}
 use Rattle.table.specs.Sized.{Sized}
+use Rattle.table.specs.Lent.{inFront}
 use Rattle.table.specs.declared.Table.{Table}
 use Rattle.table.proofs.Tests.{by-test}
 use Rattle.machine.specs.Step.{stepOf}
-use Rattle.machine.specs.Run.{Turn, turnOf, courseOf, those, isEntry, movedIn, waitedIn, entriesIn, enteredIn, waitingOf, answerOf, inFront}
+use Rattle.machine.specs.Run.{Turn, turnOf, courseOf, those, isEntry, movedIn, waitedIn, entriesIn, enteredIn, waitingOf, answerOf}
 use Rattle.machine.specs.Ended.{endedRun}
 use Rattle.machine.proofs.Steps.{step-mark, step-well-formed, step-sized}
 use Rattle.machine.proofs.Counts.{moved-most, entries-most, moved-more, entries-more, noted}

@@ -10,10 +10,11 @@ use Rattle.table.specs.Numbers.{scheduleLimit}
 use Rattle.table.specs.Refusals.{noRefusal}
 use Rattle.table.specs.Rules.{wellFormed}
 use Rattle.table.specs.Sized.{Sized}
+use Rattle.table.specs.Lent.{inFront}
 use Rattle.table.specs.declared.Table.{Table}
 use Rattle.table.proofs.Tests.{by-test}
 use Rattle.machine.specs.Step.{stepOf}
-use Rattle.machine.specs.Run.{Course, begunBy, courseOf, enteredIn, waitingOf, answerOf, inFront, runRefusal, runOf, bufferOf}
+use Rattle.machine.specs.Run.{Course, begunBy, courseOf, enteredIn, waitingOf, answerOf, runRefusal, runOf, bufferOf}
 use Rattle.machine.specs.declared.Ran.{Ran}
 use Rattle.machine.proofs.Steps.{step-well-formed, step-sized}
 use Rattle.machine.proofs.Counts.{moved-append, waited-append, entries-append, entered-append}

@@ -3,11 +3,12 @@ use Prim.Native.Nat.{ℕ}
 use mathlib.Core.Bool.{Bool, cond}
 use mathlib.Core.List.{List, [], _∷_, _++_, map}
 use lib.Dec.{leb, eqb}
-use lib.ListN.{length, drop}
+use lib.ListN.{length}
 use Rattle.table.specs.Tests.{within, howMany}
 use Rattle.table.specs.Numbers.{slots, scheduleLimit}
 use Rattle.table.specs.Refusals.{noRefusal, notWellFormed, scheduleTooLong, entriesTooShort}
 use Rattle.table.specs.Rules.{rowOf, wellFormed}
+use Rattle.table.specs.Lent.{inFront}
 use Rattle.table.specs.declared.Table.{Table}
 use Rattle.machine.specs.Step.{stepOf}
 use Rattle.machine.specs.declared.Ran.{Ran}
@@ -115,11 +116,8 @@ runOf t schedule buffer =
     let stop = runRefusal t schedule buffer in
     cond (eqb stop noRefusal) (answerOf (courseOf t schedule)) (refusedRun t stop)
 
--- "written to the front of the lent entry buffer, in order; its other bytes keep their values"
-abbrev pub inFront : List ℕ → List ℕ → List ℕ
-inFront entered buffer = entered ++ drop (length entered) buffer
-
--- what the lent buffer holds after `run`: on 3, 6 and 7 it is "untouched"
+-- What the lent buffer holds after `run`: the process numbers are "written to the front of the lent entry buffer, in order; its other bytes
+-- keep their values". On 3, 6 and 7 it is "untouched".
 unfoldable pub bufferOf : Table → List ℕ → List ℕ → List ℕ
 bufferOf t schedule buffer =
     cond (eqb (runRefusal t schedule buffer) noRefusal) (inFront (enteredIn (courseOf t schedule .turns)) buffer) buffer

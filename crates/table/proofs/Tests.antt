@@ -10,6 +10,16 @@ use borrow.Author.Tests.{le-leb, leb-true, not-true, not-false}
 use lib.Dec.{leb}
 use Rattle.table.specs.Tests.{within, every, howMany}
 
+-- a pair, to be written as a list of facts
+infixr 20 _and_
+pub _and_ : {A B : Type 0} → A → B → A × B
+a and b = (a, b)
+
+-- what holds of each of 1 to k, and of the next number, holds of each up to that one
+pub up-to-next : (P : ℕ → Type 0) (k : ℕ) → ((i : ℕ) → 1 ≤ i → i ≤ k → P i) → P (suc k) → (i : ℕ) → 1 ≤ i → i ≤ suc k → P i
+up-to-next P k before last i low high =
+    ⊎-elim (λ (e : i ≡ suc k). rw e last) (λ below. before i low (le-of-suc-le-suc below)) (eq-or-lt-of-le high)
+
 -- a choice by a test has what both its sides have, each where it is chosen
 pub by-test : {A : Type 0} (P : A → Type 0) (t : Bool) {x y : A} → (t ≡ true → P x) → (t ≡ false → P y) → P (cond t x y)
 by-test P true f g = f refl
@@ -56,10 +66,8 @@ module _ (f : ℕ → Bool) where
   unfolding every
   every-at j zero h l e = absurd (omega arith)
   every-at j (suc k) h l e =
-      ⊎-elim
-      (λ q. ap f q ∙ and-halves (every f k) (f (suc k)) e .1)
-      (λ m. every-at j k h (le-of-suc-le-suc m) (and-halves (every f k) (f (suc k)) e .0))
-      (eq-or-lt-of-le l)
+      let halves = and-halves (every f k) (f (suc k)) e in
+      up-to-next (λ i. f i ≡ true) k (λ i low high. every-at i k low high (halves .0)) (halves .1) j h l
 
   -- and where it holds of each number, it holds
   pub every-all : (k : ℕ) → ((j : ℕ) → 1 ≤ j → j ≤ k → f j ≡ true) → every f k ≡ true

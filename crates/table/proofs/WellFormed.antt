@@ -135,8 +135,8 @@ above-fresh t e z i l h =
     let k = table-rules t e .rows i (omega arith) h in
     line-one-fresh _ _ i _ k (eqb-true _ _ (rw (lt-leb i (t .n) l) at (k .line))) (z .cells i (omega arith) h)
 
--- a fresh table keeps every rule
-fresh-row-rules : (top : ℤ) (n i : ℕ) → RowRules top n i freshRow
+-- a fresh row keeps every rule, and so does a fresh table
+pub fresh-row-rules : (top : ℤ) (n i : ℕ) → RowRules top n i freshRow
 unfolding lineOk indexOk choosingOk tokenOk pivotOk cellRule cellOk mayHold
 fresh-row-rules top n i =
     record {

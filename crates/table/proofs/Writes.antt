@@ -1,11 +1,12 @@
 -- A buffer written piece after piece, from a place on: `sets l i v` is list l with the elements of v from place i on.
-use Prim.Native.Nat.{ℕ, suc, _+_, _<_}
-use mathlib.Core.Path.{_≡_}
+use Prim.Native.Nat.{ℕ, suc, _+_, _<_, _≤_}
+use mathlib.Core.Path.{_≡_, _∙_}
 use mathlib.Core.List.{List, [], _∷_, _++_}
 use native.Mathlib.Omega.{arith}
 use native.Mathlib.Numerals.{add-one}
-use lib.ListN.{length, getD, take, set}
-use lib.Seq.{sets, take-suc, length-take-le}
+use lib.ListN.{length, getD, take, set, length-append}
+use lib.Seq.{sets, length-sets, sets-eq, take-suc, length-take-le}
+use Rattle.table.specs.Lent.{inFront, Written}
 
 module _ {A : Type 0} where
   -- one piece after another is the two as one
@@ -22,3 +23,30 @@ module _ {A : Type 0} where
       let e : length (take k v) ≡ k = length-take-le k v (omega arith) in
       let one : take (k + 1) v ≡ take k v ++ (getD v k z ∷ []) = rw (add-one k) (take-suc v k z h) in
       rw (one, ← sets-append l i (take k v) (getD v k z ∷ []), e)
+
+-- where a buffer has room for two pieces it has for the first
+pub room-first : {room : ℕ} (at : ℕ) (first second : List ℕ) → at + length (first ++ second) ≤ room → at + length first ≤ room
+room-first at first second h = omega (arith, h, length-append first second)
+
+module _ {before between first : List ℕ} {at next : ℕ} (f : Written before at first between next) where
+  -- and then for the next
+  pub room-next : {room : ℕ} (second : List ℕ) → at + length (first ++ second) ≤ room → next + length second ≤ room
+  room-next second h = omega (arith, h, f .place, length-append first second)
+
+  -- the buffer keeps its length
+  pub same-size : length between ≡ length before
+  same-size = rw (f .text) (length-sets before at first)
+
+  -- a piece and the next are the two as one
+  pub and-then : {after second : List ℕ} {last : ℕ} → Written between next second after last → Written before at (first ++ second) after last
+  and-then {after} {second} s =
+      record {
+        place = omega (arith, f .place, s .place, length-append first second);
+        text = s .text ∙ rw (f .text, f .place) (sets-append before at first second);
+      }
+
+-- a piece written from the first place on stands in front
+pub in-front : {before piece after : List ℕ} {next : ℕ} → Written before 0 piece after next → length piece ≤ length before → after ≡ inFront piece before
+in-front {before} {piece} w h =
+    let e : 0 + length piece ≡ length piece = omega arith in
+    w .text ∙ sets-eq piece before 0 (omega arith) ∙ rw e

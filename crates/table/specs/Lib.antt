@@ -4,3 +4,4 @@ pub mod Refusals
 pub mod Rules
 pub mod Fresh
 pub mod Sized
+pub mod Lent

@@ -7,7 +7,7 @@ use lib.Seq.{sets, take-all}
 use Rattle.table.proofs.WellFormed.{freshOf-well-formed}
 use Rattle.listing.specs.Listing.{scheduleIn}
 use Rattle.listing.specs.Room.{room}
-use Rattle.listing.specs.Written.{Written}
+use Rattle.table.specs.Lent.{Written}
 use Rattle.listing.proofs.Listings.{listing-short, listing-not-fresh, listing-long, listing-run}
 use borrow.Author.Needs.{needs}
 use native.Mathlib.Omega.{arith}

@@ -6,8 +6,8 @@ use Rattle.machine.specs.declared.Ran.{Ran}
 use Rattle.listing.specs.Text.{ascii, numbered, numberedLine}
 use Rattle.listing.specs.Listing.{countsLine}
 use Rattle.listing.specs.Room.{room}
-use Rattle.listing.specs.Written.{Written}
-use Rattle.listing.proofs.Writing.{and-then, room-first, room-next}
+use Rattle.table.specs.Lent.{Written}
+use Rattle.table.proofs.Writes.{and-then, room-first, room-next}
 use borrow.Author.Needs.{needs}
 use Rattle.listing.proofs.put_counts.Statement.{statement}
 use Rattle.listing.proofs.put_counts.Tie as tie

@@ -4,8 +4,8 @@ use mathlib.Core.Path.{refl}
 use lib.ListN.{length, take}
 use lib.Seq.{take-all}
 use Rattle.listing.specs.Listing.{entryLines}
-use Rattle.listing.specs.Written.{Written}
-use Rattle.listing.proofs.Writing.{and-then, room-next}
+use Rattle.table.specs.Lent.{Written}
+use Rattle.table.proofs.Writes.{and-then, room-next}
 use Rattle.listing.proofs.EntryLines.{lines-more, lines-room}
 use borrow.Author.Needs.{needs}
 use native.Mathlib.Omega.{arith}

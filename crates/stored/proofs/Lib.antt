@@ -1,0 +1,14 @@
+pub mod Lengths
+pub mod Standing
+pub mod Filled
+pub mod Signs
+pub mod Numbers
+pub mod Ranges
+pub mod TableIn
+pub mod Checks
+pub mod Accepted
+pub mod Records
+pub mod ReadBack
+pub mod WrittenAgain
+pub mod RoundTrips
+pub mod WriteAnswers

@@ -1,0 +1,129 @@
+-- `fault_in` meets its contract: a fault of one part is the fault of the form where the parts before it have none.
+use Prim.Native.Nat.{ℕ, _≤_}
+use mathlib.Core.Path.{_≡_, sym, _∙_}
+use mathlib.Core.List.{List, _++_}
+use native.Mathlib.Omega.{arith}
+use borrow.Author.Tests.{le-leb, lt-leb, leb-true}
+use lib.ListN.{length}
+use Rattle.table.specs.Numbers.{slots}
+use Rattle.table.proofs.Tests.{within-high}
+use Rattle.stored.specs.Form.{headLength, formLength}
+use Rattle.stored.specs.Fields.{countIn}
+use Rattle.stored.specs.Reading.{firstFault, startChecks, headChecks, lengthChecks, checksOf}
+use Rattle.stored.specs.declared.Search.the-variants.{Nothing}
+use Rattle.stored.proofs.Checks.{no-fault-hold, found-first, found-next}
+use borrow.Author.Needs.{needs}
+use Rattle.stored.proofs.faults.fault_in.Statement.{statement}
+use Rattle.stored.proofs.faults.fault_in.Tie as tie
+
+module _ (s : List ℕ) where
+  -- there are seven bytes
+  started : headLength ≤ length s → Nothing ≡ firstFault (startChecks s)
+  unfolding startChecks firstFault
+  started h = rw (le-leb headLength (length s) h)
+
+  -- what a head and a length without a fault say
+  few : Nothing ≡ firstFault (headChecks s) → countIn s ≤ slots
+  unfolding headChecks
+  few none = within-high 1 slots (countIn s) (no-fault-hold (headChecks s) (sym none) .1 .1 .0)
+
+  whole : Nothing ≡ firstFault (lengthChecks s) → length s ≡ formLength (countIn s)
+  unfolding lengthChecks
+  whole none =
+      let h = no-fault-hold (lengthChecks s) (sym none) in
+      omega (arith, leb-true (formLength (countIn s)) (length s) (h .0), leb-true (length s) (formLength (countIn s)) (h .1 .0))
+
+returns : tie.Need-returns
+unfolding checksOf startChecks firstFault
+returns c = rw (lt-leb headLength _ (c .if1 .taken))
+
+head-fault-requires : tie.Need-head-fault-requires
+head-fault-requires c κs = search needs
+
+enum-known-head : tie.Need-enum-known-head
+enum-known-head c = search needs
+
+returns-2 : tie.Need-returns-2
+unfolding checksOf
+returns-2 c =
+    let head = c .before .before .before in
+    let s = head .before .before .before .args .form .now in
+    found-first _ _ (found-first _ _ (found-next (startChecks s) (headChecks s) (started s (head .before .if1 .left))
+    (sym (c .before .head .given .1) ∙ head .head-fault .ensures)))
+
+enum-told : tie.Need-enum-told
+enum-told c = search needs
+
+length-fault-requires : tie.Need-length-fault-requires
+length-fault-requires c κs = search needs
+
+enum-known-whole : tie.Need-enum-known-whole
+enum-known-whole c = search needs
+
+returns-3 : tie.Need-returns-3
+unfolding checksOf
+returns-3 c =
+    let whole = c .before .before .before in
+    let head = whole .before .before .before in
+    let s = head .before .before .before .args .form .now in
+    let before =
+    found-next (startChecks s) (headChecks s) (started s (head .before .if1 .left))
+    (sym (whole .before .enum-told .given .1) ∙ head .head-fault .ensures) in
+    found-first _ _ (found-next (startChecks s ++ headChecks s) (lengthChecks s) before
+    (sym (c .before .whole .given .1) ∙ whole .length-fault .ensures))
+
+enum-told-2 : tie.Need-enum-told-2
+enum-told-2 c = search needs
+
+shared-slice-read-limit-of : tie.Need-shared-slice-read-limit-of
+shared-slice-read-limit-of c = search needs
+
+shared-slice-read-limit-of-2 : tie.Need-shared-slice-read-limit-of-2
+shared-slice-read-limit-of-2 c = search needs
+
+limit-of-requires : tie.Need-limit-of-requires
+limit-of-requires c κs = search needs
+
+records-fault-requires : tie.Need-records-fault-requires
+records-fault-requires c κs =
+    let found = c .before .before .before in
+    let length = found .before .before in
+    let head = length .before .before .before in
+    let s = head .before .before .before .args .form .now in (
+      few s (sym (length .before .enum-told .given .1) ∙ head .head-fault .ensures),
+      whole s (sym (found .enum-told2 .given .1) ∙ length .length-fault .ensures),
+      c .limit-of .ensures,
+    )
+
+returns-4 : tie.Need-returns-4
+unfolding checksOf
+returns-4 c =
+    let found = c .before .before .before .before in
+    let length = found .before .before in
+    let head = length .before .before .before in
+    let s = head .before .before .before .args .form .now in
+    let before =
+    found-next (startChecks s) (headChecks s) (started s (head .before .if1 .left))
+    (sym (length .before .enum-told .given .1) ∙ head .head-fault .ensures) in
+    found-next (startChecks s ++ headChecks s ++ lengthChecks s) _
+    (found-next (startChecks s ++ headChecks s) (lengthChecks s) before (sym (found .enum-told2 .given .1) ∙ length .length-fault .ensures))
+    (c .records-fault .ensures)
+
+pub fault-in-spec : {M : Type 1} → statement M
+fault-in-spec =
+    tie.close
+    (tie.spec
+    returns
+    head-fault-requires
+    enum-known-head
+    returns-2
+    enum-told
+    length-fault-requires
+    enum-known-whole
+    returns-3
+    enum-told-2
+    shared-slice-read-limit-of
+    shared-slice-read-limit-of-2
+    limit-of-requires
+    records-fault-requires
+    returns-4)

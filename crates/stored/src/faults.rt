@@ -1,0 +1,205 @@
+// The first fault of a stored form: its checks, in the order of document 01.
+ghost use mathlib.Core.Path.{_≡_};
+ghost use Prim.Native.Nat.{_+_, _≤_};
+ghost use lib.ListN.{length};
+ghost use Rattle.table.specs.Numbers.{slots};
+ghost use Rattle.stored.specs.Form.{inTurn, headLength, formLength};
+ghost use Rattle.stored.specs.Fields.{countIn, topIn};
+ghost use Rattle.stored.specs.Reading.{refusalOf, firstFault, headChecks, lengthChecks, openingChecks, fieldsChecks, rowChecks};
+ghost use Rattle.stored.specs.Reading.{cellKeeps, recordsChecks, checksOf};
+use crate::ALGORITHM_PLACE;
+use crate::CELLS_KIND;
+use crate::CHOOSING_PLACE;
+use crate::COUNT_PLACE;
+use crate::Fault;
+use crate::HEAD_KIND;
+use crate::HEAD_LENGTH;
+use crate::INDEX_PLACE;
+use crate::LINE_PLACE;
+use crate::PIVOT_PLACE;
+use crate::ROW_KIND;
+use crate::Search;
+use crate::TOKEN_PLACE;
+use crate::X_PLACE;
+use crate::bytes::number_at;
+use crate::places::cell_place;
+use crate::places::cells_place;
+use crate::places::form_length;
+use crate::places::row_place;
+use table::MOST_PROCESSES;
+use table::Value;
+use table::refusal;
+
+// The number of a refusal, by what is at fault.
+pub(crate) fn refusal_of(fault: Fault) -> u8
+    ensures { λ n. ⌜ n ≡ refusalOf fault ⌝ }
+{
+    match fault {
+        Fault::TooShort => refusal::FORM_TOO_SHORT,
+        Fault::TooLong => refusal::FORM_TOO_LONG,
+        Fault::Kind => refusal::WRONG_KIND,
+        Fault::HeadField => refusal::BAD_FIELD,
+        Fault::Process => refusal::BAD_FIELD,
+        Fault::Line => refusal::BAD_FIELD,
+        Fault::Index => refusal::BAD_FIELD,
+        Fault::Choosing => refusal::BAD_FIELD,
+        Fault::Token => refusal::BAD_FIELD,
+        Fault::Pivot => refusal::BAD_FIELD,
+        Fault::Cell => refusal::BAD_FIELD,
+    }
+}
+
+fn head_fault(form: &[u8]) -> Search
+    requires { ⌜ headLength ≤ length (now form) ⌝ }
+    ensures { λ f. ⌜ f ≡ firstFault (headChecks (now (form .entry))) ⌝ }
+{
+    if form[0] != HEAD_KIND {
+        return Search::Found(Fault::Kind, 0);
+    }
+    let algorithm = form[ALGORITHM_PLACE];
+    if !table::algorithm_ok(algorithm) {
+        return Search::Found(Fault::HeadField, ALGORITHM_PLACE);
+    }
+    let n = form[COUNT_PLACE];
+    if !table::count_ok(n) {
+        return Search::Found(Fault::HeadField, COUNT_PLACE);
+    }
+    if !table::x_ok(table::limit_of(algorithm, n), number_at(form, X_PLACE)) {
+        return Search::Found(Fault::HeadField, X_PLACE);
+    }
+    Search::Nothing
+}
+
+fn length_fault(form: &[u8]) -> Search
+    requires { ⌜ headLength ≤ length (now form) ⌝ }
+    ensures { λ f. ⌜ f ≡ firstFault (lengthChecks (now (form .entry))) ⌝ }
+{
+    let length = form.len();
+    let due = form_length(form[COUNT_PLACE]);
+    if length < due {
+        return Search::Found(Fault::TooShort, length);
+    }
+    if due < length {
+        return Search::Found(Fault::TooLong, due);
+    }
+    Search::Nothing
+}
+
+// How a record of a process opens: its kind, and the process number.
+fn opening_fault(form: &[u8], kind: u8, process: u8, at: usize) -> Search
+    requires { ⌜ at + 2 ≤ length (now form) ⌝ }
+    ensures { λ f. ⌜ f ≡ firstFault (openingChecks (now (form .entry)) kind process at) ⌝ }
+{
+    if form[at] != kind {
+        return Search::Found(Fault::Kind, at);
+    }
+    if form[at + 1] != process {
+        return Search::Found(Fault::Process, at + 1);
+    }
+    Search::Nothing
+}
+
+// The fields of a row, in byte order.
+fn fields_fault(form: &[u8], top: Value, process: u8) -> Search
+    requires { ⌜ (1 ≤ process) × (formLength process ≤ length (now form)) × (top .0 ≡ topIn (now form)) ⌝ }
+    ensures { λ f. ⌜ f ≡ firstFault (fieldsChecks (now (form .entry)) process) ⌝ }
+{
+    let at = row_place(process);
+    let n = form[COUNT_PLACE];
+    let line = form[at + LINE_PLACE];
+    if !table::line_ok(n, process, line) {
+        return Search::Found(Fault::Line, at + LINE_PLACE);
+    }
+    if !table::index_ok(n, process, line, form[at + INDEX_PLACE]) {
+        return Search::Found(Fault::Index, at + INDEX_PLACE);
+    }
+    if !table::choosing_ok(line, form[at + CHOOSING_PLACE]) {
+        return Search::Found(Fault::Choosing, at + CHOOSING_PLACE);
+    }
+    if !table::token_ok(top, line, number_at(form, at + TOKEN_PLACE)) {
+        return Search::Found(Fault::Token, at + TOKEN_PLACE);
+    }
+    if !table::pivot_ok(top, line, number_at(form, at + PIVOT_PLACE)) {
+        return Search::Found(Fault::Pivot, at + PIVOT_PLACE);
+    }
+    Search::Nothing
+}
+
+fn row_fault(form: &[u8], top: Value, process: u8) -> Search
+    requires { ⌜ (1 ≤ process) × (formLength process ≤ length (now form)) × (top .0 ≡ topIn (now form)) ⌝ }
+    ensures { λ f. ⌜ f ≡ firstFault (rowChecks (now (form .entry)) process) ⌝ }
+{
+    let opening = opening_fault(form, ROW_KIND, process, row_place(process));
+    if let Search::Found(fault, place) = opening {
+        return Search::Found(fault, place);
+    }
+    fields_fault(form, top, process)
+}
+
+// Whether read cell j of a process keeps its rule.
+fn cell_keeps(form: &[u8], top: Value, process: u8, j: u8) -> bool
+    requires { ⌜ (1 ≤ process) × (formLength process ≤ length (now form)) ⌝ }
+    requires { ⌜ (1 ≤ j) × (j ≤ slots) × (top .0 ≡ topIn (now form)) ⌝ }
+    ensures { λ b. ⌜ b ≡ cellKeeps (now (form .entry)) process j ⌝ }
+{
+    let at = row_place(process);
+    let line = form[at + LINE_PLACE];
+    let index = form[at + INDEX_PLACE];
+    let may = table::may_hold(form[COUNT_PLACE], process, line, index, j);
+    table::cell_ok(top, may, number_at(form, cell_place(process, j)))
+}
+
+// The first fault of the records of all processes. Rows and cells are walked in nested loops, left by the label with the place.
+fn records_fault(form: &[u8], top: Value) -> Search
+    requires { ⌜ (countIn (now form) ≤ slots) × (length (now form) ≡ formLength (countIn (now form))) × (top .0 ≡ topIn (now form)) ⌝ }
+    ensures { λ f. ⌜ f ≡ firstFault (inTurn (recordsChecks (now (form .entry))) (countIn (now (form .entry)))) ⌝ }
+{
+    let n = form[COUNT_PLACE];
+    let mut rows: u8 = 0;
+    let search = 'rows: loop {
+        if rows >= n {
+            break 'rows Search::Nothing;
+        }
+        let process = rows + 1;
+        let row = row_fault(form, top, process);
+        if let Search::Found(fault, place) = row {
+            break 'rows Search::Found(fault, place);
+        }
+        let opening = opening_fault(form, CELLS_KIND, process, cells_place(process));
+        if let Search::Found(fault, place) = opening {
+            break 'rows Search::Found(fault, place);
+        }
+        let mut cells: u8 = 0;
+        while cells < MOST_PROCESSES {
+            let j = cells + 1;
+            if !cell_keeps(form, top, process, j) {
+                break 'rows Search::Found(Fault::Cell, cell_place(process, j));
+            }
+            cells = j;
+        }
+        rows = process;
+    };
+    search
+}
+
+// The first fault of a form.
+pub(crate) fn fault_in(form: &[u8]) -> Search
+    ensures { λ f. ⌜ f ≡ firstFault (checksOf (now (form .entry))) ⌝ }
+{
+    let length = form.len();
+    if length < HEAD_LENGTH {
+        return Search::Found(Fault::TooShort, length);
+    }
+    let head = head_fault(form);
+    if let Search::Found(fault, place) = head {
+        return Search::Found(fault, place);
+    }
+    let whole = length_fault(form);
+    if let Search::Found(fault, place) = whole {
+        return Search::Found(fault, place);
+    }
+    records_fault(
+        form,
+        table::limit_of(form[ALGORITHM_PLACE], form[COUNT_PLACE]),
+    )
+}
