@@ -14,8 +14,9 @@ A case file opens with its kind:
     W  a write: a table, the length of the lent buffer (2 bytes, little-endian)
 A table of S, R and W is algorithm, n, X and 16 rows of line, index, choosing, token, pivot and 16 read cells; X, token,
 pivot and read cells have 4 bytes (little-endian, two's complement), the others one. Before a run and before a write,
-byte k of the lent buffer holds 100 + k % 100. A table that is read is written again, to a buffer of the form's length,
-and what is written is read again. The functions from `expected` on say what the program prints.
+byte k of the lent buffer holds 100 + k % 100. After a read that is accepted the table is written again, to a buffer of
+the form's length; after a write the bytes that it wrote, if any, are read. The functions from `expected` on say what
+the program prints.
 
 The quoted words are document 01's. Random choices come from the case's name alone, so a case stays as it is when others
 come and go.
@@ -1033,7 +1034,7 @@ RECORD_PLACES = {"kind-2": 0, "process-2": 1, "line": 2, "index": 3, "choosing":
 
 def place_of(field, process=1):
     """The place of a field of the head or of a process in a stored form."""
-    return HEAD_PLACES[field] if field in HEAD_PLACES else 7 + 79 * (process - 1) + RECORD_PLACES[field]
+    return HEAD_PLACES[field] if field in HEAD_PLACES else form_length(process - 1) + RECORD_PLACES[field]
 
 
 def changed(form, place, *values):

@@ -1,8 +1,7 @@
 -- What a write answers to have written, as the read after it takes it.
-use Prim.Native.Nat.{ℕ, _≤_}
+use Prim.Native.Nat.{ℕ}
 use mathlib.Core.Path.{_≡_, _∙_}
 use mathlib.Core.List.{List}
-use native.Mathlib.Omega.{arith}
 use borrow.Author.Tests.{eqb-true}
 use lib.Dec.{eqb}
 use lib.ListN.{length, take}
@@ -13,19 +12,11 @@ use Rattle.table.proofs.Tests.{by-test}
 use Rattle.stored.specs.Writing.{writeOf, bufferOf}
 use Rattle.stored.specs.Reading.{readOf}
 use Rattle.stored.specs.declared.Restored.{Restored}
-use Rattle.demands.proofs.RoundTrips.{written-and-read, write-accepted}
+use Rattle.demands.proofs.RoundTrips.{written-and-read}
 use Rattle.cases.specs.RoundTrips.{writtenAndRead}
 
 module _ (t : Table) (buffer : List ℕ) where
-  -- it is no more than the buffer has
-  pub written-within : writeOf t buffer .length ≤ length buffer
-  unfolding writeOf
-  written-within =
-      by-test (λ (l : ℕ). l ≤ length buffer) (eqb (writeOf t buffer .stop) noRefusal)
-      (λ accepted. write-accepted t buffer .0 (eqb-true _ _ accepted) .1)
-      (λ _. omega arith)
-
-  -- and it is the form of the table, or nothing
+  -- it is the form of the table, or nothing
   pub written-read : Sized t → readOf (take (writeOf t buffer .length) (bufferOf t buffer)) ≡ writtenAndRead t buffer
   unfolding writeOf writtenAndRead
   written-read sized =

@@ -1,5 +1,5 @@
--- Demand 2, of the stored form, said of two calls one after the other: "A well-formed table written and read back is the same table; an
--- accepted stored form written again is the same bytes."
+-- Demand 2 of the order, of the stored form, said of two calls one after the other: "A well-formed table written and read back is the same
+-- table; an accepted stored form written again is the same bytes."
 use Prim.Native.Nat.{ℕ, _≤_}
 use mathlib.Core.Path.{_≡_}
 use mathlib.Core.Bool.{cond}

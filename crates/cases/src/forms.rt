@@ -49,7 +49,6 @@ pub(crate) fn put_read(form: &[u8])
     }
 }
 
-// The table is written once more and read back: the buffer then holds its form already, and a buffer may hold anything.
 fn put_wrote(t: Table, lent: &mut [u8]) {
     fill(lent);
     let w = stored::write(t, lent);
@@ -57,6 +56,7 @@ fn put_wrote(t: Table, lent: &mut [u8]) {
     put_byte(b" stop ", w.stop);
     end_line();
     put_lent(b"bytes", lent, w.length);
+    fill(lent);
     put_restored(written_and_read(t, lent));
 }
 

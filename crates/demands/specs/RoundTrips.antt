@@ -1,5 +1,5 @@
--- Demand 2, of the stored form: "A well-formed table written and read back is the same table; an accepted stored form written again is the
--- same bytes." Said of the definitions that the promises of `write` and `read` cite.
+-- Demand 2 of the order, of the stored form: "A well-formed table written and read back is the same table; an accepted stored form written
+-- again is the same bytes." Said of the definitions that the promises of `write` and `read` cite.
 use Prim.Native.Nat.{ℕ, _<_, _≤_}
 use mathlib.Core.Path.{_≡_}
 use mathlib.Core.Bool.{true}

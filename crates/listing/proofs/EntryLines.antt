@@ -5,9 +5,9 @@ use mathlib.Core.List.{List, [], _∷_, _++_, append-assoc, append-nil}
 use native.Mathlib.Numerals.{add-one}
 use lib.ListN.{length, getD, take, drop, take-append-drop}
 use lib.Seq.{take-suc}
+use Rattle.table.proofs.Writes.{room-first}
 use Rattle.listing.specs.Listing.{entryLine, entryLines}
 use Rattle.listing.specs.Room.{room}
-use Rattle.table.proofs.Writes.{room-first}
 
 lines-append : (ps qs : List ℕ) → entryLines (ps ++ qs) ≡ entryLines ps ++ entryLines qs
 unfolding entryLines

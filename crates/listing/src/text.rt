@@ -3,9 +3,9 @@ ghost use mathlib.Core.Path.{_≡_};
 ghost use mathlib.Core.List.{_++_};
 ghost use Prim.Native.Nat.{_+_, _≤_};
 ghost use lib.ListN.{length};
+ghost use Rattle.table.specs.Lent.{Written};
 ghost use Rattle.listing.specs.Room.{room};
 ghost use Rattle.listing.specs.Text.{decimal, lineFeed};
-ghost use Rattle.table.specs.Lent.{Written};
 use crate::LISTING_ROOM;
 
 // The bytes of a word.

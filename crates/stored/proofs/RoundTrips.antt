@@ -9,10 +9,9 @@ use lib.ListN.{length}
 use Rattle.table.specs.Numbers.{unbounded}
 use Rattle.table.specs.Refusals.{noRefusal}
 use Rattle.table.specs.Rules.{wellFormed}
-use Rattle.table.specs.Fresh.{freshTable}
 use Rattle.table.specs.Sized.{Sized}
 use Rattle.table.specs.declared.Table.{Table}
-use Rattle.table.proofs.WellFormed.{table-rules, well-formed, fresh-well-formed, fresh-sized}
+use Rattle.table.proofs.WellFormed.{table-rules, well-formed, fresh-well-formed}
 use Rattle.stored.specs.FourBytes.{byteAt}
 use Rattle.stored.specs.Form.{encode, formLength}
 use Rattle.stored.specs.Fields.{tableIn}
@@ -23,7 +22,6 @@ use Rattle.stored.specs.declared.Fault.the-variants.{Line, Index, Choosi
 use Rattle.stored.specs.declared.Search.{Search}
 use Rattle.stored.specs.declared.Search.the-variants.{Found, Nothing}
 use Rattle.stored.proofs.Lengths.{encode-length}
-use Rattle.stored.proofs.TableIn.{table-in-sized}
 use Rattle.stored.proofs.Records.{form-records}
 use Rattle.stored.proofs.Accepted.{accepted-framed, accepted-rules, framed-accepted}
 use Rattle.stored.proofs.ReadBack.{frame-read, rules-read, table-read}
@@ -48,10 +46,6 @@ module _ (s : List ℕ) (accepted : firstFault (checksOf s) ≡ Nothing) where
   pub accepted-well-formed : wellFormed (tableIn s) ≡ true
   accepted-well-formed = well-formed (tableIn s) (accepted-rules s accepted)
 
-  pub accepted-sized : Sized (tableIn s)
-  unfolding tableIn
-  accepted-sized = table-in-sized s (accepted-rules s accepted .most)
-
   pub read-answer : readOf s ≡ record { table = tableIn s; stop = noRefusal; place = length s }
   unfolding readOf answerTo
   read-answer = rw accepted
@@ -60,20 +54,13 @@ module _ (s : List ℕ) (accepted : firstFault (checksOf s) ≡ Nothing) where
   written-again bytes = framed-again s bytes (accepted-framed s accepted)
 
 -- A read shows the table in the form where that is accepted, and the fresh one where it is refused: so it shows a well-formed table always.
-module _ (s : List ℕ) where
-  read-shows : (P : Table → Type 0) → (firstFault (checksOf s) ≡ Nothing → P (tableIn s)) → P (freshTable unbounded 1) → P (readOf s .table)
-  unfolding readOf answerTo
-  read-shows P accepted refused = shown (firstFault (checksOf s)) accepted
-    where
-      shown : (found : Search) → (found ≡ Nothing → P (tableIn s)) → P (answerTo s found .table)
-      shown Nothing h = h refl
-      shown (Found fault place) h = refused
-
-  pub read-well-formed : wellFormed (readOf s .table) ≡ true
-  read-well-formed = read-shows (λ (t : Table). wellFormed t ≡ true) (accepted-well-formed s) (fresh-well-formed unbounded 1 refl refl)
-
-  pub read-sized : Sized (readOf s .table)
-  read-sized = read-shows Sized (accepted-sized s) (fresh-sized unbounded 1)
+pub read-well-formed : (s : List ℕ) → wellFormed (readOf s .table) ≡ true
+unfolding readOf answerTo
+read-well-formed s = shown (firstFault (checksOf s)) (accepted-well-formed s)
+  where
+    shown : (found : Search) → (found ≡ Nothing → wellFormed (tableIn s) ≡ true) → wellFormed (answerTo s found .table) ≡ true
+    shown Nothing accepted = accepted refl
+    shown (Found fault place) accepted = fresh-well-formed unbounded 1 refl refl
 
 -- every fault has a number that is not 0
 fault-numbered : (fault : Fault) → refusalOf fault ≡ noRefusal → ⊥

@@ -4,8 +4,8 @@ use mathlib.Core.Path.{_≡_}
 use mathlib.Core.Bool.{true, false}
 use mathlib.Core.List.{List}
 use native.Mathlib.Omega.{arith}
-use borrow.Author.Tests.{le-leb, lt-leb, leb-true}
-use lib.Dec.{leb}
+use borrow.Author.Tests.{le-leb, lt-leb, leb-true, eqb-true}
+use lib.Dec.{leb, eqb}
 use lib.ListN.{length}
 use Rattle.table.specs.Refusals.{noRefusal, notWellFormed, bufferTooShort}
 use Rattle.table.specs.Rules.{wellFormed}
@@ -44,3 +44,11 @@ module _ (t : Table) (buffer : List ℕ) where
     pub write-buffer : bufferOf t buffer ≡ inFront (encode t) buffer
     unfolding bufferOf
     write-buffer = rw accepted
+
+  -- It never answers more bytes than the buffer has: what a caller needs to know to take them off its front.
+  pub written-within : writeOf t buffer .length ≤ length buffer
+  unfolding writeOf
+  written-within =
+      by-test (λ (l : ℕ). l ≤ length buffer) (eqb (writeRefusal t buffer) noRefusal)
+      (λ accepted. accepted-write (eqb-true _ _ accepted) .1)
+      (λ _. omega arith)

@@ -77,11 +77,11 @@ pivotIn s i = numberAt s (pivotPlace i)
 abbrev pub cellIn : List ℕ → ℕ → ℕ → ℤ
 cellIn s i j = numberAt s (cellPlace i j)
 
--- sixteen elements: f 1 to f k, and then the same one
+-- sixteen elements: f 1 to f k, and then `rest` up to the sixteenth
 unfoldable pub filled : {A : Type 0} → (ℕ → A) → ℕ → A → List A
 filled f k rest = inTurn (λ i. f i ∷ []) k ++ replicate (slots - k) rest
 
--- the row of process i in a form
+-- the row of process i in a form: all of its sixteen cells are there
 unfoldable pub rowIn : List ℕ → ℕ → Row
 rowIn s i = record {
   line = lineIn s i;

@@ -33,7 +33,7 @@ refusalOf Token = badField
 refusalOf Pivot = badField
 refusalOf Cell = badField
 
--- A check: whether it holds; and where it does not, what is at fault, and "its offending kind's or field's first byte".
+-- A check: whether it holds; and where it does not, what is at fault, and the place: of a kind or a field its "first byte".
 pub data Check : Type 0 where
   check : Bool → Fault → ℕ → Check
 
@@ -69,7 +69,7 @@ openingChecks s kind i at =
     ∷ check (eqb (byteAt s (at + 1)) i) Process (at + 1)
     ∷ []
 
--- The records of process i: "each record's kind and fields in byte order".
+-- the fields of its row
 unfoldable pub fieldsChecks : List ℕ → ℕ → List Check
 fieldsChecks s i =
     check (lineOk (countIn s) i (lineIn s i)) Line (linePlace i)
@@ -79,6 +79,7 @@ fieldsChecks s i =
     ∷ check (pivotOk (topIn s) (lineIn s i) (pivotIn s i)) Pivot (pivotPlace i)
     ∷ []
 
+-- its two records
 unfoldable pub rowChecks : List ℕ → ℕ → List Check
 rowChecks s i = openingChecks s rowKind i (rowPlace i) ++ fieldsChecks s i
 
@@ -92,6 +93,7 @@ cellCheck s i j = check (cellKeeps s i j) Cell (cellPlace i j) ∷ []
 unfoldable pub cellsChecks : List ℕ → ℕ → List Check
 cellsChecks s i = openingChecks s cellsKind i (cellsPlace i) ++ inTurn (cellCheck s i) slots
 
+-- "each record's kind and fields in byte order"
 unfoldable pub recordsChecks : List ℕ → ℕ → List Check
 recordsChecks s i = rowChecks s i ++ cellsChecks s i
 
@@ -107,10 +109,11 @@ refusedRead fault place = record { table = freshTable unbounded 1; stop = refusa
 abbrev pub acceptedRead : List ℕ → Restored
 acceptedRead s = record { table = tableIn s; stop = noRefusal; place = length s }
 
--- the answer of `read`
+-- what a search comes to
 unfoldable pub answerTo : List ℕ → Search → Restored
 answerTo s (Found fault place) = refusedRead fault place
 answerTo s Nothing = acceptedRead s
 
+-- the answer of `read`
 unfoldable pub readOf : List ℕ → Restored
 readOf s = answerTo s (firstFault (checksOf s))

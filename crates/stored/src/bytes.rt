@@ -10,6 +10,9 @@ use table::Value;
 // The bits of -1.
 const ALL_BITS: u32 = 4294967295;
 
+// The bits from here on are those of the numbers below zero.
+const SIGN_BIT: u32 = 2147483648;
+
 // The bits of a number. `!` of one below zero is how far it is from -1.
 fn bits_of(v: Value) -> u32
     ensures { λ b. ⌜ b ≡ bitsOf (v .0) ⌝ }
@@ -25,7 +28,7 @@ fn bits_of(v: Value) -> u32
 fn number_of(bits: u32) -> Value
     ensures { λ v. ⌜ v .0 ≡ numberOf bits ⌝ }
 {
-    if bits < 2147483648 {
+    if bits < SIGN_BIT {
         Value(bits as i32)
     } else {
         Value(!((ALL_BITS - bits) as i32))
@@ -51,6 +54,7 @@ pub(crate) fn put_number(buffer: &mut [u8], at: usize, v: Value) -> usize
     put_byte(buffer, fourth, (bits / 256 / 256 / 256 % 256) as u8)
 }
 
+// A byte as a number of 32 bits. A function of its own, since a proof does not see through a cast inside a sum.
 fn wide(byte: u8) -> u32
     ensures { λ b. ⌜ (b ≡ byte) × (b < 256) ⌝ }
 {

@@ -155,12 +155,12 @@ fn records_fault(form: &[u8], top: Value) -> Search
     ensures { λ f. ⌜ f ≡ firstFault (inTurn (recordsChecks (now (form .entry))) (countIn (now (form .entry)))) ⌝ }
 {
     let n = form[COUNT_PLACE];
-    let mut rows: u8 = 0;
-    let search = 'rows: loop {
-        if rows >= n {
+    let mut rows_passed: u8 = 0;
+    'rows: loop {
+        if rows_passed >= n {
             break 'rows Search::Nothing;
         }
-        let process = rows + 1;
+        let process = rows_passed + 1;
         let row = row_fault(form, top, process);
         if let Search::Found(fault, place) = row {
             break 'rows Search::Found(fault, place);
@@ -169,17 +169,16 @@ fn records_fault(form: &[u8], top: Value) -> Search
         if let Search::Found(fault, place) = opening {
             break 'rows Search::Found(fault, place);
         }
-        let mut cells: u8 = 0;
-        while cells < MOST_PROCESSES {
-            let j = cells + 1;
+        let mut cells_passed: u8 = 0;
+        while cells_passed < MOST_PROCESSES {
+            let j = cells_passed + 1;
             if !cell_keeps(form, top, process, j) {
                 break 'rows Search::Found(Fault::Cell, cell_place(process, j));
             }
-            cells = j;
+            cells_passed = j;
         }
-        rows = process;
-    };
-    search
+        rows_passed = process;
+    }
 }
 
 // The first fault of a form.

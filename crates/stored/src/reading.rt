@@ -67,9 +67,7 @@ fn row_in(form: &[u8], process: u8) -> Row
 fn fresh_table() -> Table
     ensures { λ t. ⌜ t ≡ freshTable unbounded 1 ⌝ }
 {
-    let fresh = table::fresh(UNBOUNDED, 1);
-    let t = fresh.table;
-    t
+    table::fresh(UNBOUNDED, 1).table
 }
 
 // The table of a form that has no fault. Its rows above n stay as in a fresh table.
@@ -95,9 +93,8 @@ fn table_in(form: &[u8]) -> Table
 fn refused(fault: Fault, place: usize) -> Restored
     ensures { λ r. ⌜ r ≡ refusedRead fault place ⌝ }
 {
-    let table = fresh_table();
     Restored {
-        table,
+        table: fresh_table(),
         stop: refusal_of(fault),
         place,
     }
@@ -111,9 +108,8 @@ pub fn read(form: &[u8]) -> Restored
     if let Search::Found(fault, place) = search {
         return refused(fault, place);
     }
-    let table = table_in(form);
     Restored {
-        table,
+        table: table_in(form),
         stop: refusal::NO_REFUSAL,
         place: form.len(),
     }

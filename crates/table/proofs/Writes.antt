@@ -35,18 +35,18 @@ module _ {before between first : List ℕ} {at next : ℕ} (f : Written before a
 
   -- the buffer keeps its length
   pub same-size : length between ≡ length before
-  same-size = rw (f .text) (length-sets before at first)
+  same-size = rw (f .bytes) (length-sets before at first)
 
   -- a piece and the next are the two as one
   pub and-then : {after second : List ℕ} {last : ℕ} → Written between next second after last → Written before at (first ++ second) after last
   and-then {after} {second} s =
       record {
         place = omega (arith, f .place, s .place, length-append first second);
-        text = s .text ∙ rw (f .text, f .place) (sets-append before at first second);
+        bytes = s .bytes ∙ rw (f .bytes, f .place) (sets-append before at first second);
       }
 
 -- a piece written from the first place on stands in front
 pub in-front : {before piece after : List ℕ} {next : ℕ} → Written before 0 piece after next → length piece ≤ length before → after ≡ inFront piece before
 in-front {before} {piece} w h =
     let e : 0 + length piece ≡ length piece = omega arith in
-    w .text ∙ sets-eq piece before 0 (omega arith) ∙ rw e
+    w .bytes ∙ sets-eq piece before 0 (omega arith) ∙ rw e

@@ -12,4 +12,4 @@ inFront piece buffer = piece ++ drop (length piece) buffer
 -- a piece is written from a place on, the other bytes keep their values, and the next place is the one after the piece
 pub record Written (before : List ℕ) (at : ℕ) (piece after : List ℕ) (next : ℕ) : Type 0 where
   pub place : next ≡ at + length piece
-  pub text : after ≡ sets before at piece
+  pub bytes : after ≡ sets before at piece

@@ -5,9 +5,9 @@ use mathlib.Core.List.{List}
 use lib.ListN.{length, take, drop, length-drop}
 use lib.Seq.{sets, take-all}
 use Rattle.table.proofs.WellFormed.{freshOf-well-formed}
+use Rattle.table.specs.Lent.{Written}
 use Rattle.listing.specs.Listing.{scheduleIn}
 use Rattle.listing.specs.Room.{room}
-use Rattle.table.specs.Lent.{Written}
 use Rattle.listing.proofs.Listings.{listing-short, listing-not-fresh, listing-long, listing-run}
 use borrow.Author.Needs.{needs}
 use native.Mathlib.Omega.{arith}
@@ -17,7 +17,7 @@ use Rattle.listing.proofs.list.Tie as tie
 -- A piece that is written from the first place on, and is the lister's text.
 listed : {before piece after text : List ℕ} {next : ℕ} → Written before 0 piece after next → next ≤ room → text ≡ piece
     → ((next ≡ length text) × (next ≤ room)) × (after ≡ sets before 0 text)
-listed w fits e = rw e ((omega (arith, w .place), fits), w .text)
+listed w fits e = rw e ((omega (arith, w .place), fits), w .bytes)
 
 put-refused-requires : tie.Need-put-refused-requires
 put-refused-requires c κs = search needs

@@ -1,7 +1,7 @@
 -- `put_bakery` meets its contract.
+use Rattle.table.proofs.Writes.{and-then, room-first, room-next}
 use Rattle.listing.specs.Text.{ascii, numbered, numberedLine}
 use Rattle.listing.specs.Listing.{bakeryLine}
-use Rattle.table.proofs.Writes.{and-then, room-first, room-next}
 use borrow.Author.Needs.{needs}
 use Rattle.listing.proofs.put_bakery.Statement.{statement}
 use Rattle.listing.proofs.put_bakery.Tie as tie

@@ -2,12 +2,12 @@
 use Prim.Native.Nat.{ℕ, _+_, _≤_}
 use mathlib.Core.List.{List, _++_}
 use lib.ListN.{length}
+use Rattle.table.specs.Lent.{Written}
+use Rattle.table.proofs.Writes.{and-then, room-first, room-next}
 use Rattle.machine.specs.declared.Ran.{Ran}
 use Rattle.listing.specs.Text.{ascii, numbered, numberedLine}
 use Rattle.listing.specs.Listing.{countsLine}
 use Rattle.listing.specs.Room.{room}
-use Rattle.table.specs.Lent.{Written}
-use Rattle.table.proofs.Writes.{and-then, room-first, room-next}
 use borrow.Author.Needs.{needs}
 use Rattle.listing.proofs.put_counts.Statement.{statement}
 use Rattle.listing.proofs.put_counts.Tie as tie

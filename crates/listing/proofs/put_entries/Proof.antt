@@ -3,9 +3,9 @@ use Prim.Native.Nat.{_+_, _-_, _≤_}
 use mathlib.Core.Path.{refl}
 use lib.ListN.{length, take}
 use lib.Seq.{take-all}
-use Rattle.listing.specs.Listing.{entryLines}
 use Rattle.table.specs.Lent.{Written}
 use Rattle.table.proofs.Writes.{and-then, room-next}
+use Rattle.listing.specs.Listing.{entryLines}
 use Rattle.listing.proofs.EntryLines.{lines-more, lines-room}
 use borrow.Author.Needs.{needs}
 use native.Mathlib.Omega.{arith}
@@ -20,7 +20,7 @@ abbrev μ-loop : tie.MeasureT-loop
 
 loop-holds : tie.Need-loop-holds Inv-loop μ-loop
 unfolding entryLines
-loop-holds c = (omega arith, record { place = omega arith; text = refl })
+loop-holds c = (omega arith, record { place = omega arith; bytes = refl })
 
 shared-slice-read-put-entry : tie.Need-shared-slice-read-put-entry Inv-loop μ-loop
 shared-slice-read-put-entry c = search needs

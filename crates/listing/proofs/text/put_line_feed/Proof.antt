@@ -17,7 +17,7 @@ add-result c = let one : c .args .at + 1 ≤ room = c .pre in search needs
 
 returns : tie.Need-returns
 unfolding lineFeed ascii
-returns c = record { place = refl; text = refl }
+returns c = record { place = refl; bytes = refl }
 
 pub put-line-feed-spec : {M : Type 1} → statement M
 put-line-feed-spec = tie.close (tie.spec element-write-text add-result returns)

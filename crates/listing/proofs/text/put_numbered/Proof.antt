@@ -1,6 +1,6 @@
 -- `put_numbered` meets its contract.
-use Rattle.listing.specs.Text.{decimal}
 use Rattle.table.proofs.Writes.{and-then, room-first, room-next}
+use Rattle.listing.specs.Text.{decimal}
 use Rattle.listing.proofs.text.put_numbered.Statement.{statement}
 use Rattle.listing.proofs.text.put_numbered.Tie as tie
 

@@ -3,9 +3,9 @@ use Prim.Native.Nat.{_≤_, _-_}
 use mathlib.Core.Path.{_≡_, refl, _∙_}
 use lib.ListN.{length, take}
 use lib.Seq.{sets, take-all}
-use Rattle.table.proofs.Writes.{sets-more}
 use borrow.Author.Needs.{needs}
 use native.Mathlib.Omega.{arith}
+use Rattle.table.proofs.Writes.{sets-more}
 use Rattle.listing.proofs.text.put_word.Statement.{statement}
 use Rattle.listing.proofs.text.put_word.Tie as tie
 
@@ -47,7 +47,7 @@ returns c =
     let e : b .loop .k ≡ length (b .before .args .word .now) = omega arith in
     record {
       place = rw e;
-      text = b .loop .inv .1 ∙ rw (take-all (b .loop .k) (b .before .args .word .now) (c .loop-test .left));
+      bytes = b .loop .inv .1 ∙ rw (take-all (b .loop .k) (b .before .args .word .now) (c .loop-test .left));
     }
 
 pub put-word-spec : {M : Type 1} → statement M

@@ -33,6 +33,18 @@ module _ (s : List ℕ) where
       let h = no-fault-hold (lengthChecks s) (sym none) in
       omega (arith, leb-true (formLength (countIn s)) (length s) (h .0), leb-true (length s) (formLength (countIn s)) (h .1 .0))
 
+-- Where the length is looked at, the parts before it have no fault.
+abbrev form-of : tie.After-length-fault → List ℕ
+form-of c = c .before .before .before .before .before .before .args .form .now
+
+head-passed : (c : tie.After-length-fault) → Nothing ≡ firstFault (headChecks (form-of c))
+head-passed c = sym (c .before .enum-told .given .1) ∙ c .before .before .before .head-fault .ensures
+
+both-passed : (c : tie.After-length-fault) → Nothing ≡ firstFault (startChecks (form-of c) ++ headChecks (form-of c))
+both-passed c =
+    let s = form-of c in
+    found-next (startChecks s) (headChecks s) (started s (omega (arith, c .before .before .before .before .if1 .left))) (head-passed c)
+
 returns : tie.Need-returns
 unfolding checksOf startChecks firstFault
 returns c = rw (lt-leb headLength _ (c .if1 .taken))
@@ -48,7 +60,7 @@ unfolding checksOf
 returns-2 c =
     let head = c .before .before .before in
     let s = head .before .before .before .args .form .now in
-    found-first _ _ (found-first _ _ (found-next (startChecks s) (headChecks s) (started s (head .before .if1 .left))
+    found-first _ _ (found-first _ _ (found-next (startChecks s) (headChecks s) (started s (omega (arith, head .before .if1 .left)))
     (sym (c .before .head .given .1) ∙ head .head-fault .ensures)))
 
 enum-told : tie.Need-enum-told
@@ -63,14 +75,10 @@ enum-known-whole c = search needs
 returns-3 : tie.Need-returns-3
 unfolding checksOf
 returns-3 c =
-    let whole = c .before .before .before in
-    let head = whole .before .before .before in
-    let s = head .before .before .before .args .form .now in
-    let before =
-    found-next (startChecks s) (headChecks s) (started s (head .before .if1 .left))
-    (sym (whole .before .enum-told .given .1) ∙ head .head-fault .ensures) in
-    found-first _ _ (found-next (startChecks s ++ headChecks s) (lengthChecks s) before
-    (sym (c .before .whole .given .1) ∙ whole .length-fault .ensures))
+    let looked = c .before .before .before in
+    let s = form-of looked in
+    found-first _ _ (found-next (startChecks s ++ headChecks s) (lengthChecks s) (both-passed looked)
+    (sym (c .before .whole .given .1) ∙ looked .length-fault .ensures))
 
 enum-told-2 : tie.Need-enum-told-2
 enum-told-2 c = search needs
@@ -86,27 +94,23 @@ limit-of-requires c κs = search needs
 
 records-fault-requires : tie.Need-records-fault-requires
 records-fault-requires c κs =
-    let found = c .before .before .before in
-    let length = found .before .before in
-    let head = length .before .before .before in
-    let s = head .before .before .before .args .form .now in (
-      few s (sym (length .before .enum-told .given .1) ∙ head .head-fault .ensures),
-      whole s (sym (found .enum-told2 .given .1) ∙ length .length-fault .ensures),
+    let told = c .before .before .before in
+    let looked = told .before .before in
+    let s = form-of looked in (
+      few s (head-passed looked),
+      whole s (sym (told .enum-told2 .given .1) ∙ looked .length-fault .ensures),
       c .limit-of .ensures,
     )
 
 returns-4 : tie.Need-returns-4
 unfolding checksOf
 returns-4 c =
-    let found = c .before .before .before .before in
-    let length = found .before .before in
-    let head = length .before .before .before in
-    let s = head .before .before .before .args .form .now in
-    let before =
-    found-next (startChecks s) (headChecks s) (started s (head .before .if1 .left))
-    (sym (length .before .enum-told .given .1) ∙ head .head-fault .ensures) in
+    let told = c .before .before .before .before in
+    let looked = told .before .before in
+    let s = form-of looked in
+    let long = sym (told .enum-told2 .given .1) ∙ looked .length-fault .ensures in
     found-next (startChecks s ++ headChecks s ++ lengthChecks s) _
-    (found-next (startChecks s ++ headChecks s) (lengthChecks s) before (sym (found .enum-told2 .given .1) ∙ length .length-fault .ensures))
+    (found-next (startChecks s ++ headChecks s) (lengthChecks s) (both-passed looked) long)
     (c .records-fault .ensures)
 
 pub fault-in-spec : {M : Type 1} → statement M

@@ -1,6 +1,6 @@
 -- `records_fault` meets its contract. The loops' invariants: the rows passed have no fault, and the cells passed of the next row have none.
 use Prim.Native.Nat.{ℕ, _+_, _-_, _≤_}
-use mathlib.Core.Path.{_≡_, refl, sym, _∙_}
+use mathlib.Core.Path.{_≡_, refl, sym, ap, _∙_}
 use mathlib.Core.Bool.{true, false}
 use mathlib.Core.List.{List}
 use native.Mathlib.Omega.{arith}
@@ -35,6 +35,10 @@ module _ (s : List ℕ) (i : ℕ) where
     unfolding recordsChecks cellsChecks
     in-cells opening e = found-next (rowChecks s i) (cellsChecks s i) row (found-next _ _ opening e)
 
+  at-cells-place : {search : Search} {place : ℕ} → search ≡ firstFault (openingChecks s cellsKind i place) → place ≡ cellsPlace i
+      → search ≡ firstFault (openingChecks s cellsKind i (cellsPlace i))
+  at-cells-place e place = e ∙ ap (λ at. firstFault (openingChecks s cellsKind i at)) place
+
   cell-found : (j : ℕ) → cellKeeps s i j ≡ false → Found Cell (cellPlace i j) ≡ firstFault (cellCheck s i j)
   unfolding cellCheck firstFault
   cell-found j e = rw e
@@ -54,6 +58,27 @@ Inv-rows form top n rows₀ rows = (rows ≤ n) × (Nothing ≡ firstFault (inTu
 
 abbrev μ-rows : tie.MeasureT-rows
 μ-rows form top n rows₀ rows = n - rows
+
+-- Where the opening of the cells is looked at, the row has no fault;
+abbrev row-of : tie.After-opening-fault Inv-loop μ-loop Inv-rows μ-rows → tie.At-rows Inv-loop μ-loop Inv-rows μ-rows
+row-of c = c .before .before .before .before .before .before
+
+abbrev form-of : tie.At-rows Inv-loop μ-loop Inv-rows μ-rows → List ℕ
+form-of c = c .before .before .before .args .form .now
+
+row-passed : (c : tie.After-opening-fault Inv-loop μ-loop Inv-rows μ-rows)
+    → Nothing ≡ firstFault (rowChecks (form-of (row-of c)) (row-of c .rows .rows-passed + 1))
+row-passed c = sym (c .before .before .enum-told .given .1) ∙ c .before .before .before .before .row-fault .ensures
+
+-- and where the cells are walked, the opening has none either: a search of the cells is one of the records.
+of-records : (c : tie.At-loop Inv-loop μ-loop Inv-rows μ-rows) {search : Search}
+    → let rows = row-of (c .before .before .before) in
+    search ≡ firstFault (inTurn (cellCheck (form-of rows) (rows .rows .rows-passed + 1)) slots)
+    → search ≡ firstFault (recordsChecks (form-of rows) (rows .rows .rows-passed + 1))
+of-records c =
+    let opening = c .before .before .before in
+    let told = sym (c .before .enum-told2 .given .1) ∙ opening .opening-fault .ensures in
+    in-cells _ _ (row-passed opening) (at-cells-place _ _ told (opening .before .cells-place .ensures))
 
 shared-slice-read-n : tie.Need-shared-slice-read-n Inv-loop μ-loop Inv-rows μ-rows
 shared-slice-read-n c = search needs
@@ -105,10 +130,10 @@ loop-less c = search needs
 loop-again : tie.Need-loop-again Inv-loop μ-loop Inv-rows μ-rows
 loop-again c =
     let l = c .before .before .before in
-    let rows = l .before .before .before .before .before .before .before .before .before in
-    let s = rows .before .before .before .args .form .now in
-    let i = rows .rows .rows + 1 in
-    let j = l .loop .cells in
+    let rows = row-of (l .before .before .before) in
+    let s = form-of rows in
+    let i = rows .rows .rows-passed + 1 in
+    let j = l .loop .cells-passed in
     (omega arith, none-more (cellCheck s i) j (l .loop .inv .1) (cell-kept s i (j + 1) (passed (c .before .cell-keeps .ensures) (c .if2 .left))))
 
 rows-less : tie.Need-rows-less Inv-loop μ-loop Inv-rows μ-rows
@@ -117,23 +142,16 @@ rows-less c = search needs
 rows-again : tie.Need-rows-again Inv-loop μ-loop Inv-rows μ-rows
 rows-again c =
     let l = c .before in
-    let opening = l .before .before .before in
-    let row = opening .before .before .before .before in
-    let rows = row .before .before in
-    let s = rows .before .before .before .args .form .now in
-    let i = rows .rows .rows + 1 in
-    let all : l .loop .cells ≡ slots = omega arith in
-    let none =
-    in-cells s i (sym (opening .before .before .enum-told .given .1) ∙ row .row-fault .ensures)
-    (sym (l .before .enum-told2 .given .1) ∙ opening .opening-fault .ensures ∙ rw (opening .before .cells-place .ensures))
-    (rw all at (l .loop .inv .1)) in
-    (omega arith, none-more (recordsChecks s) (rows .rows .rows) (rows .rows .inv .1) none)
+    let rows = row-of (l .before .before .before) in
+    let all : l .loop .cells-passed ≡ slots = omega arith in
+    let none = of-records l (rw all at (l .loop .inv .1)) in
+    (omega arith, none-more (recordsChecks (form-of rows)) (rows .rows .rows-passed) (rows .rows .inv .1) none)
 
 returns : tie.Need-returns Inv-loop μ-loop Inv-rows μ-rows
 returns c =
     let rows = c .before in
     let s = rows .before .before .before .args .form .now in
-    let all : rows .rows .rows ≡ countIn s = omega arith in
+    let all : rows .rows .rows-passed ≡ countIn s = omega arith in
     rw all at (rows .rows .inv .1)
 
 returns-2 : tie.Need-returns-2 Inv-loop μ-loop Inv-rows μ-rows
@@ -141,36 +159,32 @@ returns-2 c =
     let row = c .before .before .before in
     let rows = row .before .before in
     let s = rows .before .before .before .args .form .now in
-    let k = rows .rows .rows in
+    let k = rows .rows .rows-passed in
     found-at (recordsChecks s) k (countIn s) (row .before .if1 .left) (rows .rows .inv .1)
     (in-row s (k + 1) (sym (c .before .row .given .1) ∙ row .row-fault .ensures))
 
 returns-3 : tie.Need-returns-3 Inv-loop μ-loop Inv-rows μ-rows
 returns-3 c =
     let opening = c .before .before .before in
-    let row = opening .before .before .before .before in
-    let rows = row .before .before in
-    let s = rows .before .before .before .args .form .now in
-    let k = rows .rows .rows in
-    found-at (recordsChecks s) k (countIn s) (row .before .if1 .left) (rows .rows .inv .1)
-    (in-opening s (k + 1) (sym (opening .before .before .enum-told .given .1) ∙ row .row-fault .ensures)
-    (sym (c .before .opening .given .1) ∙ opening .opening-fault .ensures ∙ rw (opening .before .cells-place .ensures)))
+    let rows = row-of opening in
+    let s = form-of rows in
+    let k = rows .rows .rows-passed in
+    let told = sym (c .before .opening .given .1) ∙ opening .opening-fault .ensures in
+    found-at (recordsChecks s) k (countIn s) (opening .before .before .before .before .before .if1 .left) (rows .rows .inv .1)
+    (in-opening s (k + 1) (row-passed opening) (at-cells-place _ _ told (opening .before .cells-place .ensures)))
 
 returns-4 : tie.Need-returns-4 Inv-loop μ-loop Inv-rows μ-rows
 returns-4 c =
     let l = c .before .before .before .before in
     let opening = l .before .before .before in
-    let row = opening .before .before .before .before in
-    let rows = row .before .before in
-    let s = rows .before .before .before .args .form .now in
-    let k = rows .rows .rows in
-    let j = l .loop .cells in
+    let rows = row-of opening in
+    let s = form-of rows in
+    let k = rows .rows .rows-passed in
+    let j = l .loop .cells-passed in
     let cell = cell-found s (k + 1) (j + 1) (failed (c .before .before .cell-keeps .ensures) (c .before .if2 .taken)) in
     rw (c .cell-place .ensures)
-    (found-at (recordsChecks s) k (countIn s) (row .before .if1 .left) (rows .rows .inv .1)
-    (in-cells s (k + 1) (sym (opening .before .before .enum-told .given .1) ∙ row .row-fault .ensures)
-    (sym (l .before .enum-told2 .given .1) ∙ opening .opening-fault .ensures ∙ rw (opening .before .cells-place .ensures))
-    (found-at (cellCheck s (k + 1)) j slots (c .before .before .before .loop-test .taken) (l .loop .inv .1) cell)))
+    (found-at (recordsChecks s) k (countIn s) (opening .before .before .before .before .before .if1 .left) (rows .rows .inv .1)
+    (of-records l (found-at (cellCheck s (k + 1)) j slots (c .before .before .before .loop-test .taken) (l .loop .inv .1) cell)))
 
 pub records-fault-spec : {M : Type 1} → statement M
 records-fault-spec =

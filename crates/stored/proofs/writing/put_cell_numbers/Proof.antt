@@ -30,7 +30,7 @@ abbrev μ-loop : tie.MeasureT-loop
 
 loop-holds : tie.Need-loop-holds Inv-loop μ-loop
 unfolding inTurn
-loop-holds c = (omega arith, record { place = omega arith; text = refl })
+loop-holds c = (omega arith, record { place = omega arith; bytes = refl })
 
 mul-t10 : tie.Need-mul-t10 Inv-loop μ-loop
 mul-t10 c = search needs

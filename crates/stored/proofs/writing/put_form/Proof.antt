@@ -24,7 +24,7 @@ put-head-requires c κs = omega arith
 
 loop-holds : tie.Need-loop-holds Inv-loop μ-loop
 unfolding inTurn
-loop-holds c = (omega arith, record { place = omega arith; text = refl })
+loop-holds c = (omega arith, record { place = omega arith; bytes = refl })
 
 put-records-requires : tie.Need-put-records-requires Inv-loop μ-loop
 put-records-requires c κs =
