@@ -79,7 +79,7 @@ fieldsChecks s i =
     ∷ check (pivotOk (topIn s) (lineIn s i) (pivotIn s i)) Pivot (pivotPlace i)
     ∷ []
 
--- its two records
+-- the record of its row
 unfoldable pub rowChecks : List ℕ → ℕ → List Check
 rowChecks s i = openingChecks s rowKind i (rowPlace i) ++ fieldsChecks s i
 
@@ -90,6 +90,7 @@ cellKeeps s i j = cellOk (topIn s) (mayHold (countIn s) i (lineIn s i) (indexIn 
 unfoldable pub cellCheck : List ℕ → ℕ → ℕ → List Check
 cellCheck s i j = check (cellKeeps s i j) Cell (cellPlace i j) ∷ []
 
+-- the record of its read cells
 unfoldable pub cellsChecks : List ℕ → ℕ → List Check
 cellsChecks s i = openingChecks s cellsKind i (cellsPlace i) ++ inTurn (cellCheck s i) slots
 
