@@ -9,8 +9,8 @@ ghost use lib.ListN.{getD};
 ghost use lib.Signed.{nonNeg};
 ghost use Rattle.table.specs.Tests.{every};
 ghost use Rattle.table.specs.Numbers.{slots, modulusOf};
-ghost use Rattle.compare.specs.Demand.{isRemainder, cellAgrees, rowAgrees, rowAtAgrees, agree};
-ghost use Rattle.compare.specs.Demand.{isCritical, atMostOne, meets, same};
+ghost use Rattle.demands.specs.Agreement.{isRemainder, cellAgrees, rowAgrees, rowAtAgrees, agree, isCritical, atMostOne, meets};
+ghost use Rattle.compare.specs.Same.{same};
 use table::Row;
 use table::SLOTS;
 use table::TOKEN_LIMIT;
@@ -31,7 +31,7 @@ fn is_remainder(m: u32, unbounded: Value, bounded: Value) -> bool
     ensures { λ b. ⌜ b ≡ isRemainder m (unbounded .0) (bounded .0) ⌝ }
 {
     if unbounded.is_below(Value(0)) {
-        return unbounded.is_none() & bounded.is_none();
+        return bounded.is_none();
     }
     if bounded.is_below(Value(0)) {
         return false;
@@ -147,7 +147,7 @@ pub(crate) fn is_met(n: u8, unbounded: Table, bounded: Table) -> bool
     tables_agree(modulus(n), unbounded, bounded) & at_most_one(unbounded) & at_most_one(bounded)
 }
 
-// Whether two tables of one machine are the same. No token is above the limit, so modulo one more each is its own remainder.
+// Whether two tables of one machine are the same. Modulo one more than the limit each number is its own remainder, and -1 goes with -1.
 pub(crate) fn is_same(t: Table, other: Table) -> bool
     ensures { λ b. ⌜ b ≡ same t other ⌝ }
 {

@@ -1,2 +1,12 @@
 pub mod Bench
 pub mod RoundTrips
+pub mod Views
+pub mod From1
+pub mod RowFacts
+pub mod TokenViews
+pub mod RowViews
+pub mod StepViews
+pub mod Agreement
+pub mod Mirrors
+pub mod SideBySide
+pub mod ForEver

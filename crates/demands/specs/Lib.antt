@@ -1,2 +1,5 @@
 pub mod Bench
 pub mod RoundTrips
+pub mod Agreement
+pub mod SideBySide
+pub mod ForEver

@@ -4,7 +4,7 @@ use mathlib.Core.Path.{_≡_, refl, sym, ap, _∙_}
 use mathlib.Core.Bool.{Bool, true, false, cond}
 use mathlib.Core.List.{List, [], _∷_, _++_, append-assoc, append-nil}
 use native.Mathlib.Numerals.{add-one}
-use borrow.Author.Tests.{eq-eqb, ne-eqb}
+use borrow.Author.Tests.{eqb-false, eq-eqb, ne-eqb}
 use lib.Dec.{eqb}
 use lib.ListN.{length, getD, take, drop}
 use lib.Seq.{take-suc, split-at}
@@ -53,6 +53,21 @@ course-append t (i ∷ s) later =
 pub course-goes-on : (t : Table) (s later : List ℕ) → courseOf t s .stop ≡ noRefusal
     → courseOf t (s ++ later) ≡ begunBy (courseOf t s .turns) (courseOf (courseOf t s .table) later)
 course-goes-on t s later going = course-append t s later ∙ rw (eq-eqb _ noRefusal going)
+
+-- The first byte of a schedule, if it is taken.
+pub course-first : (t : Table) (i : ℕ) (later : List ℕ) → stepOf t i .stop ≡ noRefusal
+    → courseOf t (i ∷ later) ≡ begunBy (turnOf t i ∷ []) (courseOf (stepOf t i .table) later)
+unfolding courseOf
+course-first t i later e = rw (eq-eqb (stepOf t i .stop) noRefusal e)
+
+-- where no byte is refused, each is taken
+pub all-taken : (t : Table) (s : List ℕ) → courseOf t s .stop ≡ noRefusal → length (courseOf t s .turns) ≡ length s
+unfolding courseOf
+all-taken t [] = λ _. refl
+all-taken t (i ∷ s) =
+    by-test (λ (c : Course). c .stop ≡ noRefusal → length (c .turns) ≡ suc (length s)) (eqb (stepOf t i .stop) noRefusal)
+    (λ _ e. ap suc (all-taken (stepOf t i .table) s e))
+    (λ refused e. absurd (eqb-false (stepOf t i .stop) noRefusal refused e))
 
 -- A byte more of a schedule, where none before it is refused and they lead from t to now: it is taken, or it stops the course.
 module _ (t : Table) (s : List ℕ) (k : ℕ) (us : List Turn) (now : Table) (inside : k < length s)

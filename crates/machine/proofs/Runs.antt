@@ -3,7 +3,7 @@ use Prim.Native.Nat.{ℕ, _+_, _≤_}
 use mathlib.Core.Path.{_≡_, sym, ap, _∙_}
 use mathlib.Core.Bool.{true}
 use mathlib.Core.List.{List, [], _∷_, _++_}
-use borrow.Author.Tests.{le-leb, ne-eqb}
+use borrow.Author.Tests.{le-leb, eqb-true, ne-eqb}
 use lib.Dec.{eqb}
 use lib.ListN.{length, length-append}
 use Rattle.table.specs.Numbers.{scheduleLimit}
@@ -25,6 +25,13 @@ module _ (t : Table) (s b : List ℕ) where
   pub run-accepted : wellFormed t ≡ true → length s ≤ scheduleLimit → length s ≤ length b → runRefusal t s b ≡ noRefusal
   unfolding runRefusal
   run-accepted w short room = rw (w, le-leb (length s) scheduleLimit short, le-leb (length s) (length b) room)
+
+  -- A run that answers stop number 0 was not.
+  pub run-not-refused : runOf t s b .stop ≡ noRefusal → runRefusal t s b ≡ noRefusal
+  unfolding runOf
+  run-not-refused =
+      by-test (λ (r : Ran). r .stop ≡ noRefusal → runRefusal t s b ≡ noRefusal) (eqb (runRefusal t s b) noRefusal)
+      (λ e _. eqb-true (runRefusal t s b) noRefusal e) (λ _ e. e)
 
   -- Then it answers what its course gives, and its entries stand in front of the buffer.
   module _ (accepted : runRefusal t s b ≡ noRefusal) where

@@ -89,3 +89,10 @@ module _ (f : ℕ → Bool) where
   pub many-more : (k : ℕ) {c w : ℕ} → c ≡ howMany f k → w ≡ cond (f (k + 1)) 1 0 → c + w ≡ howMany f (k + 1)
   unfolding howMany
   many-more k e h = rw (e, h, add-one k)
+
+-- what holds of the same numbers holds of as many
+pub many-same : (f g : ℕ → Bool) (k : ℕ) → ((i : ℕ) → 1 ≤ i → i ≤ k → f i ≡ g i) → howMany f k ≡ howMany g k
+unfolding howMany
+many-same f g zero same = refl
+many-same f g (suc k) same =
+    rw (many-same f g k (λ i low high. same i low (omega arith)), same (suc k) (omega arith) (omega arith))

@@ -4,7 +4,7 @@ use mathlib.Core.Path.{_≡_, refl}
 use Rattle.table.specs.Numbers.{slots}
 use Rattle.table.specs.Tests.{howMany}
 use Rattle.table.proofs.Tests.{many-more}
-use Rattle.compare.specs.Demand.{isCritical, atMostOne}
+use Rattle.demands.specs.Agreement.{isCritical, atMostOne}
 use borrow.Author.Needs.{needs}
 use native.Mathlib.Omega.{arith}
 use Rattle.compare.proofs.demand.at_most_one.Statement.{statement}

@@ -1,7 +1,7 @@
 -- `cell_agrees` meets its contract.
 use Prim.Native.Nat.{_+_, _-_}
 use mathlib.Core.Path.{_≡_}
-use Rattle.compare.specs.Demand.{cellAgrees}
+use Rattle.demands.specs.Agreement.{cellAgrees}
 use native.Mathlib.Omega.{arith}
 use borrow.Author.Needs.{needs}
 use Rattle.compare.proofs.demand.cell_agrees.Statement.{statement}

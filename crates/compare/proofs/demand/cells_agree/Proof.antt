@@ -5,7 +5,7 @@ use mathlib.Core.Path.{_≡_, refl, sym}
 use Rattle.table.specs.Numbers.{slots}
 use Rattle.table.specs.Tests.{every}
 use Rattle.table.proofs.Tests.{every-more, every-stops}
-use Rattle.compare.specs.Demand.{cellAgrees}
+use Rattle.demands.specs.Agreement.{cellAgrees}
 use borrow.Author.Needs.{needs}
 use native.Mathlib.Omega.{arith}
 use Rattle.compare.proofs.demand.cells_agree.Statement.{statement}

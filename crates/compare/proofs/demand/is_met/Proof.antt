@@ -1,5 +1,5 @@
 -- `is_met` meets its contract.
-use Rattle.compare.specs.Demand.{meets}
+use Rattle.demands.specs.Agreement.{meets}
 use borrow.Author.Needs.{needs}
 use Rattle.compare.proofs.demand.is_met.Statement.{statement}
 use Rattle.compare.proofs.demand.is_met.Tie as tie

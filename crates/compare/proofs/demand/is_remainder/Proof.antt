@@ -11,14 +11,10 @@ is-below-requires c κs = search needs
 is-none-requires : tie.Need-is-none-requires
 is-none-requires c κs = search needs
 
-is-none-requires-2 : tie.Need-is-none-requires-2
-is-none-requires-2 c κs = search needs
-
 returns : tie.Need-returns
 returns c =
-    let b = c .before .before in
-    rw (c .is-none2 .ensures, c .before .is-none .ensures)
-    (none-with-none _ _ _ (sym (b .before .is-below .ensures) ∙ b .if1 .taken))
+    let b = c .before in
+    rw (c .is-none .ensures) (none-with-none _ _ _ (sym (b .before .is-below .ensures) ∙ b .if1 .taken))
 
 is-below-requires-2 : tie.Need-is-below-requires-2
 is-below-requires-2 c κs = search needs
@@ -54,7 +50,6 @@ is-remainder-spec =
     (tie.spec
     is-below-requires
     is-none-requires
-    is-none-requires-2
     returns
     is-below-requires-2
     returns-2

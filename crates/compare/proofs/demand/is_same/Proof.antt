@@ -1,5 +1,5 @@
 -- `is_same` meets its contract.
-use Rattle.compare.specs.Demand.{same}
+use Rattle.compare.specs.Same.{same}
 use borrow.Author.Needs.{needs}
 use Rattle.compare.proofs.demand.is_same.Statement.{statement}
 use Rattle.compare.proofs.demand.is_same.Tie as tie

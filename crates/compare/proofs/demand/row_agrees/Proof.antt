@@ -1,5 +1,5 @@
 -- `row_agrees` meets its contract.
-use Rattle.compare.specs.Demand.{rowAgrees}
+use Rattle.demands.specs.Agreement.{rowAgrees}
 use borrow.Author.Needs.{needs}
 use Rattle.compare.proofs.demand.row_agrees.Statement.{statement}
 use Rattle.compare.proofs.demand.row_agrees.Tie as tie

@@ -1,7 +1,7 @@
 -- `row_at_agrees` meets its contract.
 use Prim.Native.Nat.{_+_, _-_}
 use mathlib.Core.Path.{_≡_}
-use Rattle.compare.specs.Demand.{rowAtAgrees}
+use Rattle.demands.specs.Agreement.{rowAtAgrees}
 use native.Mathlib.Omega.{arith}
 use borrow.Author.Needs.{needs}
 use Rattle.compare.proofs.demand.row_at_agrees.Statement.{statement}

@@ -5,7 +5,7 @@ use mathlib.Core.Path.{_≡_, refl, sym}
 use Rattle.table.specs.Numbers.{slots}
 use Rattle.table.specs.Tests.{every}
 use Rattle.table.proofs.Tests.{every-more, every-stops}
-use Rattle.compare.specs.Demand.{rowAtAgrees}
+use Rattle.demands.specs.Agreement.{rowAtAgrees}
 use borrow.Author.Needs.{needs}
 use native.Mathlib.Omega.{arith}
 use Rattle.compare.proofs.demand.rows_agree.Statement.{statement}

@@ -1,5 +1,5 @@
 -- `tables_agree` meets its contract.
-use Rattle.compare.specs.Demand.{agree}
+use Rattle.demands.specs.Agreement.{agree}
 use borrow.Author.Needs.{needs}
 use Rattle.compare.proofs.demand.tables_agree.Statement.{statement}
 use Rattle.compare.proofs.demand.tables_agree.Tie as tie

@@ -1,18 +1,22 @@
 -- Demand 3's words on two tables that have had the same bytes, as tests that compute: the unbounded table first, then the bounded one.
-use Prim.Native.Nat.{ℕ, _+_, _%_}
+use Prim.Native.Nat.{ℕ, _%_}
 use mathlib.Core.Bool.{Bool, _&&_}
 use lib.Dec.{leb, eqb}
 use lib.IntN.{ℤ, pos, negsuc}
 use Rattle.table.specs.Tests.{within, every, howMany, eqℤ}
-use Rattle.table.specs.Numbers.{slots, tokenLimit, isNone, modulusOf}
+use Rattle.table.specs.Numbers.{slots, none, modulusOf}
 use Rattle.table.specs.Rules.{rowOf, cellOf}
 use Rattle.table.specs.declared.Row.{Row}
 use Rattle.table.specs.declared.Table.{Table}
 
+-- Source 002: "f(-1) = -1 and for all v ≥ 0, f(v) = v mod (2n-1)". The modulus is m; -1 is the only number below 0 that a table holds.
+unfoldable pub f : ℕ → ℤ → ℤ
+f m (pos v) = pos (v % m)
+f m (negsuc _) = none
+
 -- "is the unbounded one's remainder modulo" m, "with -1 for -1"
 unfoldable pub isRemainder : ℕ → ℤ → ℤ → Bool
-isRemainder m (pos u) b = eqℤ b (pos (u % m))
-isRemainder m (negsuc u) b = isNone (negsuc u) && isNone b
+isRemainder m u b = eqℤ b (f m u)
 
 -- read cell j of a row of each
 unfoldable pub cellAgrees : ℕ → Row → Row → ℕ → Bool
@@ -36,18 +40,18 @@ rowAtAgrees m u b i = rowAgrees m (rowOf u i) (rowOf b i)
 unfoldable pub agree : ℕ → Table → Table → Bool
 agree m u b = isRemainder m (u .x) (b .x) && every (rowAtAgrees m u b) slots
 
--- whether row i stands at lines 8 to 10
+-- "lines 8 to 10"
+abbrev pub isCriticalLine : ℕ → Bool
+isCriticalLine line = within 8 10 line
+
+-- whether row i stands there
 abbrev pub isCritical : Table → ℕ → Bool
-isCritical t i = within 8 10 (rowOf t i .line)
+isCritical t i = isCriticalLine (rowOf t i .line)
 
 -- "at most one process stands at lines 8 to 10"
 unfoldable pub atMostOne : Table → Bool
 atMostOne t = leb (howMany (isCritical t) slots) 1
 
--- demand 3 after a byte, of tables for n processes
+-- demand 3 after a byte, of tables for n processes: "modulo 2n - 1"
 unfoldable pub meets : ℕ → Table → Table → Bool
 meets n u b = agree (modulusOf n) u b && atMostOne u && atMostOne b
-
--- Two tables of one machine are the same: no token is above the limit, so modulo one more each is its own remainder.
-unfoldable pub same : Table → Table → Bool
-same t other = eqb (t .algorithm) (other .algorithm) && eqb (t .n) (other .n) && agree (tokenLimit + 1) t other

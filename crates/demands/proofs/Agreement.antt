@@ -1,0 +1,232 @@
+-- What the views of two tables say of the tables themselves: nothing that demand 3 speaks of is lost in a view.
+use Prim.Native.Nat.{ℕ, zero, suc, _+_, _-_, _≤_}
+use mathlib.Core.Path.{_≡_, refl, sym, ap, _∙_}
+use mathlib.Core.Bool.{Bool, true, false, false≢true, cond}
+use native.Mathlib.Omega.{arith}
+use borrow.Author.Tests.{le-leb, leb-true, eq-eqb, eqb-true}
+use lib.Dec.{eqb}
+use lib.IntN.{ℤ, pos, negsuc}
+use lib.ListN.{length}
+use Rattle.table.specs.Tests.{within, howMany}
+use Rattle.table.specs.Numbers.{slots, modulusOf}
+use Rattle.table.specs.Rules.{rowOf, cellOf, indexOk, choosingOk, cellRule, wellFormed}
+use Rattle.table.specs.Sized.{Sized}
+use Rattle.table.specs.declared.Row.{Row}
+use Rattle.table.specs.declared.Table.{Table}
+use Rattle.table.proofs.Tests.{by-test, and-both, every-all}
+use Rattle.table.proofs.WellFormed.{RowRules, table-rules, above-fresh}
+use Rattle.theory.proofs.Counting.{Process, earlier, last, by-order}
+use Rattle.theory.proofs.Tokens.{modulus, reduced}
+use Rattle.theory.proofs.Model.{Place, at1, at2, at3, at4, at5, at6, at7, at8, at9, at10}
+use Rattle.theory.proofs.Model as model
+use Rattle.theory.proofs.Bounded.{rowReduced, remainders}
+use Rattle.theory.proofs.Theorems.{Exclusive}
+use Rattle.theory.proofs.Theorems as theory
+use Rattle.demands.specs.Agreement.{f, isRemainder, cellAgrees, rowAgrees, rowAtAgrees, agree, isCriticalLine, isCritical, atMostOne}
+use Rattle.demands.proofs.Views.{tokenOf, placeOf, rowView, view}
+use Rattle.demands.proofs.From1.{row-from1, cell-from1}
+use Rattle.demands.proofs.RowFacts.{each-line, line-range, FromNone, from-zero, token-from, pivot-from, cell-from}
+
+-- Places.
+
+-- the line of a place, and its index, which is 0 where it has none
+lineOf : Place → ℕ
+lineOf at1 = 1
+lineOf (at2 j) = 2
+lineOf at3 = 3
+lineOf at4 = 4
+lineOf at5 = 5
+lineOf (at6 j) = 6
+lineOf (at7 j) = 7
+lineOf at8 = 8
+lineOf at9 = 9
+lineOf at10 = 10
+
+indexOf : Place → ℕ
+indexOf at1 = 0
+indexOf (at2 j) = j
+indexOf at3 = 0
+indexOf at4 = 0
+indexOf at5 = 0
+indexOf (at6 j) = j
+indexOf (at7 j) = j
+indexOf at8 = 0
+indexOf at9 = 0
+indexOf at10 = 0
+
+-- a place shows the line that it is made of,
+line-of-place : (index line : ℕ) → 1 ≤ line → line ≤ 10 → lineOf (placeOf line index) ≡ line
+unfolding lineOf
+line-of-place index = each-line (λ (k : ℕ). lineOf (placeOf k index) ≡ k) refl refl refl refl refl refl refl refl refl refl
+
+-- the index, where it keeps its rule,
+index-of-place : (n i index line : ℕ) → 1 ≤ line → line ≤ 10 → indexOk n i line index ≡ true → indexOf (placeOf line index) ≡ index
+unfolding indexOf indexOk
+index-of-place n i index =
+    each-line (λ (k : ℕ). indexOk n i k index ≡ true → indexOf (placeOf k index) ≡ index)
+    without with-index without without without with-index with-index without without without
+  where
+    with-index : {ok : Bool} → ok ≡ true → index ≡ index
+    with-index _ = refl
+
+    without : eqb index 0 ≡ true → 0 ≡ index
+    without e = sym (eqb-true index 0 e)
+
+-- and whether the line is one of 8 to 10
+critical-place : (index line : ℕ) → 1 ≤ line → line ≤ 10 → theory.isCritical (placeOf line index) ≡ isCriticalLine line
+critical-place index =
+    each-line (λ (k : ℕ). theory.isCritical (placeOf k index) ≡ isCriticalLine k) refl refl refl refl refl refl refl refl refl refl
+
+-- the choosing flag is told by the line
+choosing-of-line : (line choosing : ℕ) → choosingOk line choosing ≡ true → choosing ≡ cond (within 2 5 line) 1 0
+unfolding choosingOk
+choosing-of-line line choosing e = by-range (within 2 5 line) e
+  where
+    by-range : (inside : Bool) → cond inside (eqb choosing 1) (eqb choosing 0) ≡ true → choosing ≡ cond inside 1 0
+    by-range true e = eqb-true choosing 1 e
+    by-range false e = eqb-true choosing 0 e
+
+-- where the view of one number is the remainder of another's, the number is
+number-agrees : (others : ℕ) (u b : ℤ) → FromNone b → tokenOf b ≡ reduced others (tokenOf u) → isRemainder (modulus others) u b ≡ true
+unfolding isRemainder f
+number-agrees others (pos v) (pos w) _ e = eq-eqb w _ (omega (arith, e))
+number-agrees others (pos v) (negsuc w) _ e = absurd (omega (arith, e))
+number-agrees others (negsuc v) (pos w) _ e = absurd (omega (arith, e))
+number-agrees others (negsuc v) (negsuc w) l e = eq-eqb w 0 (omega (arith, leb-true w 0 l))
+
+-- Rows.
+
+-- a row that keeps its rules: the place in its view shows its line, its index, and whether the line is one of 8 to 10
+module _ {top : ℤ} {n i : ℕ} {r : Row} (rules : RowRules top n i r) where
+  range : (1 ≤ r .line) × (r .line ≤ 10)
+  range = line-range n i (r .line) (rules .line)
+
+  line-shown : lineOf (rowView r .place) ≡ r .line
+  line-shown = line-of-place (r .index) (r .line) (range .0) (range .1)
+
+  index-shown : indexOf (rowView r .place) ≡ r .index
+  index-shown = index-of-place n i (r .index) (r .line) (range .0) (range .1) (rules .index)
+
+  critical-shown : theory.isCritical (rowView r .place) ≡ isCriticalLine (r .line)
+  critical-shown = critical-place (r .index) (r .line) (range .0) (range .1)
+
+-- two rows that keep their rules, where the view of the second is the remainders of the first's
+module _ {others i n₁ n₂ : ℕ} {top₁ top₂ : ℤ} {u b : Row} (rules-u : RowRules top₁ n₁ i u) (rules-b : RowRules top₂ n₂ i b)
+    (viewed : rowView b ≡ rowReduced others (rowView u)) where
+  -- they agree in line, index and choosing flag
+  same-line : b .line ≡ u .line
+  same-line = sym (line-shown rules-b) ∙ ap (λ (r : model.Row). lineOf (r .place)) viewed ∙ line-shown rules-u
+
+  same-index : b .index ≡ u .index
+  same-index = sym (index-shown rules-b) ∙ ap (λ (r : model.Row). indexOf (r .place)) viewed ∙ index-shown rules-u
+
+  same-choosing : b .choosing ≡ u .choosing
+  same-choosing =
+      choosing-of-line (b .line) (b .choosing) (rules-b .choosing)
+      ∙ ap (λ (line : ℕ). cond (within 2 5 line) 1 0) same-line
+      ∙ sym (choosing-of-line (u .line) (u .choosing) (rules-u .choosing))
+
+  -- and token, pivot and each cell of the second is the remainder of the first's
+  token-agrees : isRemainder (modulus others) (u .token) (b .token) ≡ true
+  token-agrees =
+      number-agrees others (u .token) (b .token) (token-from top₂ (b .line) (b .token) (rules-b .token))
+      (ap (λ (r : model.Row). r .token) viewed)
+
+  pivot-agrees : isRemainder (modulus others) (u .pivot) (b .pivot) ≡ true
+  pivot-agrees =
+      number-agrees others (u .pivot) (b .pivot) (pivot-from top₂ (b .line) (b .pivot) (rules-b .pivot))
+      (ap (λ (r : model.Row). r .pivot) viewed)
+
+  module _ (cells-u : length (u .cells) ≡ slots) (cells-b : length (b .cells) ≡ slots) where
+    cell-agrees : (j : ℕ) → 1 ≤ j → j ≤ slots → cellAgrees (modulus others) u b j ≡ true
+    unfolding cellAgrees cellRule
+    cell-agrees j low high =
+        number-agrees others (cellOf u j) (cellOf b j) (cell-from top₂ _ (cellOf b j) (rules-b .cells j low high))
+        (rw (cell-from1 u cells-u j low high, cell-from1 b cells-b j low high) (ap (λ (r : model.Row). r .cell j) viewed))
+
+    -- so they agree
+    row-agrees : rowAgrees (modulus others) u b ≡ true
+    unfolding rowAgrees
+    row-agrees =
+        and-both (and-both (and-both (and-both (and-both
+        (eq-eqb (u .line) (b .line) (sym same-line))
+        (eq-eqb (u .index) (b .index) (sym same-index)))
+        (eq-eqb (u .choosing) (b .choosing) (sym same-choosing)))
+        token-agrees)
+        pivot-agrees)
+        (every-all (cellAgrees (modulus others) u b) slots cell-agrees)
+
+-- Tables.
+
+module _ (u b : Table) (formed-u : wellFormed u ≡ true) (formed-b : wellFormed b ≡ true) (sized-u : Sized u) (sized-b : Sized b) where
+  -- what the views of both say of row i
+  row-viewed : view b ≡ remainders (u .n - 1) (view u) → (i : ℕ) → 1 ≤ i → i ≤ slots
+      → rowView (rowOf b i) ≡ rowReduced (u .n - 1) (rowView (rowOf u i))
+  row-viewed viewed i low high =
+      rw (row-from1 u sized-u i low high, row-from1 b sized-b i low high) (ap (λ (s : model.State). s .row i) viewed)
+
+  -- row i of both is at the same line
+  pub line-view : view b ≡ remainders (u .n - 1) (view u) → (i : ℕ) → 1 ≤ i → i ≤ slots → rowOf b i .line ≡ rowOf u i .line
+  line-view viewed i low high =
+      same-line (table-rules u formed-u .rows i low high) (table-rules b formed-b .rows i low high) (row-viewed viewed i low high)
+
+  -- row i of both agrees
+  row-at-agrees : view b ≡ remainders (u .n - 1) (view u) → (i : ℕ) → 1 ≤ i → i ≤ slots → rowAtAgrees (modulus (u .n - 1)) u b i ≡ true
+  unfolding rowAtAgrees
+  row-at-agrees viewed i low high =
+      row-agrees (table-rules u formed-u .rows i low high) (table-rules b formed-b .rows i low high) (row-viewed viewed i low high)
+      (sized-u .cells i low high) (sized-b .cells i low high)
+
+  -- X of the second is the remainder of the first's
+  x-agrees : view b ≡ remainders (u .n - 1) (view u) → isRemainder (modulus (u .n - 1)) (u .x) (b .x) ≡ true
+  x-agrees viewed =
+      number-agrees (u .n - 1) (u .x) (b .x) (from-zero _ (b .x) (table-rules b formed-b .x)) (ap (λ (s : model.State). s .x) viewed)
+
+  -- the view of a bounded table that is the remainders of the unbounded one's: the tables agree
+  pub agree-view : view b ≡ remainders (u .n - 1) (view u) → agree (modulusOf (u .n)) u b ≡ true
+  unfolding agree
+  agree-view viewed =
+      let m : modulusOf (u .n) ≡ modulus (u .n - 1) = omega (arith, table-rules u formed-u .some) in
+      rw m (and-both (x-agrees viewed) (every-all (rowAtAgrees (modulus (u .n - 1)) u b) slots (row-at-agrees viewed)))
+
+-- Exclusion.
+
+module _ (holds : ℕ → Bool) where
+  -- what holds of none of 1 to k is counted 0 times,
+  none-counted : (k : ℕ) → ((i : ℕ) → Process k i → holds i ≡ true → ⊥) → howMany holds k ≡ 0
+  unfolding howMany
+  none-counted zero never = refl
+  none-counted (suc k) never =
+      by-test (λ (one : ℕ). howMany holds k + one ≡ 0) (holds (suc k))
+      (λ e. absurd (never (suc k) (last k) e))
+      (λ _. omega (arith, none-counted k (λ i p. never i (earlier p))))
+
+  -- and what holds of no two of them at most once
+  one-counted : (k : ℕ) → ((i j : ℕ) → Process k i → Process k j → holds i ≡ true → holds j ≡ true → i ≡ j) → howMany holds k ≤ 1
+  unfolding howMany
+  one-counted zero same = omega arith
+  one-counted (suc k) same =
+      by-test (λ (one : ℕ). howMany holds k + one ≤ 1) (holds (suc k))
+      (λ e. omega (arith, none-counted k (λ i p h. omega (arith, p .high, same i (suc k) (earlier p) (last k) h e))))
+      (λ _. omega (arith, one-counted k (λ i j p q. same i j (earlier p) (earlier q))))
+
+-- exclusion in the view is "at most one process stands at lines 8 to 10"
+pub at-most-one-view : (t : Table) → wellFormed t ≡ true → Sized t → Exclusive (t .n - 1) (view t) → atMostOne t ≡ true
+unfolding atMostOne
+at-most-one-view t formed sized exclusive =
+    le-leb (howMany (isCritical t) slots) 1
+    (one-counted (isCritical t) slots
+    (λ i j p q first second. exclusive i j (process i p first) (process j q second) (critical i p first) (critical j q second)))
+  where
+    -- rows above n are at line 1
+    process : (i : ℕ) → Process slots i → isCritical t i ≡ true → Process (suc (t .n - 1)) i
+    process i p c =
+        by-order i (t .n)
+        (λ l. record { low = p .low; high = omega arith })
+        (λ l. absurd (false≢true (rw (above-fresh t formed sized i l (p .high)) at c)))
+
+    -- and the view shows which are at lines 8 to 10
+    critical : (i : ℕ) → Process slots i → isCritical t i ≡ true → theory.isCritical (view t .row i .place) ≡ true
+    critical i p c =
+        rw (sym (row-from1 t sized i (p .low) (p .high)))
+        (critical-shown (table-rules t formed .rows i (p .low) (p .high)) ∙ c)

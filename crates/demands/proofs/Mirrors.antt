@@ -1,0 +1,112 @@
+-- A bounded table beside the theory: it shows, on remainders, what the theory's unbounded machine has come to over the same bytes. That machine
+-- has no limit of tokens, so this holds for ever.
+use Prim.Native.Nat.{ℕ, suc, _-_, _≤_}
+use mathlib.Core.Path.{_≡_, refl, sym, ap, subst, _∙_}
+use mathlib.Core.Bool.{Bool, true, cond}
+use mathlib.Core.List.{List, [], _∷_}
+use native.Mathlib.Omega.{arith}
+use borrow.Author.Tests.{eqb-true}
+use lib.Dec.{eqb}
+use Rattle.table.specs.Numbers.{bounded}
+use Rattle.table.specs.Refusals.{noRefusal}
+use Rattle.table.specs.Rules.{countOk, wellFormed}
+use Rattle.table.specs.Fresh.{freshTable}
+use Rattle.table.specs.Sized.{Sized}
+use Rattle.table.specs.declared.Table.{Table}
+use Rattle.table.proofs.Tests.{by-test}
+use Rattle.table.proofs.WellFormed.{fresh-well-formed, fresh-sized}
+use Rattle.machine.specs.Step.{stepOf}
+use Rattle.machine.specs.Run.{Course, courseOf}
+use Rattle.machine.proofs.Steps.{step-machine, step-well-formed, step-sized, step-process}
+use Rattle.theory.proofs.Counting.{Process}
+use Rattle.theory.proofs.Tokens.{unboundedMachine, boundedMachine}
+use Rattle.theory.proofs.Model.{State, fresh, moves, step}
+use Rattle.theory.proofs.Invariant.{Invariant, fresh-invariant}
+use Rattle.theory.proofs.Lines.{step-keeps}
+use Rattle.theory.proofs.Theorems.{Exclusive, mutual-exclusion}
+use Rattle.theory.proofs.Bounded.{remainders, fresh-on-remainders, Clustered, clustered, moves-on-remainders, step-on-remainders}
+use Rattle.demands.specs.Agreement.{atMostOne}
+use Rattle.demands.proofs.Views.{view}
+use Rattle.demands.proofs.From1.{fresh-view}
+use Rattle.demands.proofs.StepViews.{StepSeen, step-seen, bounded-accepts}
+use Rattle.demands.proofs.Agreement.{at-most-one-view}
+
+-- the bounded table b for n processes shows the remainders of s, and s has the invariant
+pub record Mirrors (n : ℕ) (b : Table) (s : State) : Type 0 where
+  pub formed : wellFormed b ≡ true
+  pub sized : Sized b
+  pub machine : b .algorithm ≡ bounded
+  pub count : b .n ≡ n
+  pub invariant : Invariant (n - 1) s
+  pub shows : view b ≡ remainders (n - 1) s
+
+pub fresh-mirrors : (n : ℕ) → countOk n ≡ true → Mirrors n (freshTable bounded n) fresh
+fresh-mirrors n c =
+    record {
+      formed = fresh-well-formed bounded n refl c;
+      sized = fresh-sized bounded n;
+      machine = refl;
+      count = refl;
+      invariant = fresh-invariant (n - 1);
+      shows = fresh-view bounded n ∙ sym (fresh-on-remainders (n - 1));
+    }
+
+-- both take a step of process i
+module _ (n : ℕ) (b : Table) (s : State) (m : Mirrors n b s) (i : ℕ) (low : 1 ≤ i) (high : i ≤ n) where
+  process : Process (suc (n - 1)) i
+  process = record { low = low; high = omega arith }
+
+  pub mirror-accepts : stepOf b i .stop ≡ noRefusal
+  mirror-accepts = bounded-accepts b i (m .formed) (m .machine) low (omega (arith, m .count))
+
+  near : Clustered (n - 1) s i
+  near = clustered (n - 1) s (m .invariant) i process
+
+  seen : StepSeen bounded n b i
+  seen = step-seen b i (m .formed) (m .sized) mirror-accepts (m .machine) (m .count)
+
+  pub mirror-mark : stepOf b i .mark ≡ cond (moves (unboundedMachine (n - 1)) s i) 1 0
+  mirror-mark =
+      seen .mark
+      ∙ ap (λ (shown : State). cond (moves (boundedMachine (n - 1)) shown i) 1 0) (m .shows)
+      ∙ ap (λ (can : Bool). cond can 1 0) (moves-on-remainders (n - 1) s i near)
+
+  pub mirror-step : Mirrors n (stepOf b i .table) (step (n - 1) (unboundedMachine (n - 1)) s i)
+  mirror-step =
+      record {
+        formed = step-well-formed b i (m .formed) (m .sized);
+        sized = step-sized b i (m .sized);
+        machine = step-machine b i .0 ∙ m .machine;
+        count = step-machine b i .1 ∙ m .count;
+        invariant = step-keeps (n - 1) s (m .invariant) i process;
+        shows =
+            seen .table
+            ∙ ap (λ (shown : State). step (n - 1) (boundedMachine (n - 1)) shown i) (m .shows)
+            ∙ step-on-remainders (n - 1) s i near;
+      }
+
+-- at most one process stands at lines 8 to 10
+pub mirror-at-most-one : (n : ℕ) (b : Table) (s : State) → Mirrors n b s → atMostOne b ≡ true
+mirror-at-most-one n b s m =
+    at-most-one-view b (m .formed) (m .sized)
+    (rw (m .count) (subst (Exclusive (n - 1)) (sym (m .shows)) (mutual-exclusion (n - 1) s (m .invariant))))
+
+-- a table that shows some state
+pub record Mirror (n : ℕ) (b : Table) : Type 0 where
+  pub state : State
+  pub mirrors : Mirrors n b state
+
+-- and so after every schedule
+pub mirror-course : (n : ℕ) (b : Table) (schedule : List ℕ) → Mirror n b → Mirror n (courseOf b schedule .table)
+unfolding courseOf
+mirror-course n b [] m = m
+mirror-course n b (i ∷ later) m =
+    by-test (λ (c : Course). Mirror n (c .table)) (eqb (stepOf b i .stop) noRefusal)
+    (λ t.
+    let (formed, low, high) = step-process b i (eqb-true (stepOf b i .stop) noRefusal t) in
+    mirror-course n (stepOf b i .table) later
+    (record {
+      state = step (n - 1) (unboundedMachine (n - 1)) (m .state) i;
+      mirrors = mirror-step n b (m .state) (m .mirrors) i low (omega (arith, m .mirrors .count, high));
+    }))
+    (λ _. m)

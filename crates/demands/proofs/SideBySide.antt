@@ -1,0 +1,210 @@
+-- Demand 3, proved: the two machines side by side, a byte at a time, then over a schedule, and over runs.
+use Prim.Native.Nat.{ℕ, _-_, _≤_}
+use mathlib.Core.Path.{_≡_, refl, sym, ap, subst, _∙_}
+use mathlib.Core.Bool.{true}
+use mathlib.Core.List.{List, [], _∷_}
+use native.Mathlib.Omega.{arith}
+use borrow.Author.Tests.{eqb-true}
+use lib.Dec.{eqb}
+use lib.ListN.{length, take}
+use lib.Seq.{take-length}
+use Rattle.table.specs.Tests.{within}
+use Rattle.table.specs.Numbers.{slots, unbounded, bounded, modulusOf}
+use Rattle.table.specs.Refusals.{noRefusal}
+use Rattle.table.specs.Rules.{rowOf, countOk, wellFormed}
+use Rattle.table.specs.Fresh.{freshTable}
+use Rattle.table.specs.Sized.{Sized}
+use Rattle.table.specs.declared.Table.{Table}
+use Rattle.table.proofs.Tests.{by-test, and-both, many-same}
+use Rattle.table.proofs.WellFormed.{table-rules, fresh-well-formed, fresh-sized}
+use Rattle.machine.specs.Step.{stepOf}
+use Rattle.machine.specs.Run.{Course, turnOf, begunBy, courseOf, movedIn, waitedIn, entriesIn, enteredIn, isWaiting, waitingOf, answerOf}
+use Rattle.machine.specs.Run.{runRefusal, runOf, bufferOf}
+use Rattle.machine.specs.declared.Ran.{Ran}
+use Rattle.machine.proofs.Steps.{step-machine, step-well-formed, step-sized, step-process}
+use Rattle.machine.proofs.Courses.{course-first, all-taken}
+use Rattle.machine.proofs.Runs.{run-not-refused, run-answer, run-buffer}
+use Rattle.theory.proofs.Theorems.{mutual-exclusion}
+use Rattle.theory.proofs.Bounded.{remainders}
+use Rattle.demands.specs.Agreement.{agree, meets}
+use Rattle.demands.specs.SideBySide.{Demand3, takenIn, UntilRefused, SameCounts, Alike, Piece, RunsMeet, InRuns}
+use Rattle.demands.proofs.Views.{view}
+use Rattle.demands.proofs.From1.{fresh-view}
+use Rattle.demands.proofs.StepViews.{StepSeen, step-seen}
+use Rattle.demands.proofs.Agreement.{line-view, agree-view, at-most-one-view}
+use Rattle.demands.proofs.Mirrors.{Mirrors, fresh-mirrors, mirror-accepts, mirror-mark, mirror-step, mirror-at-most-one}
+
+-- The unbounded table u and the bounded one b, for n processes, after the same bytes.
+record Beside (n : ℕ) (u b : Table) : Type 0 where
+  formed : wellFormed u ≡ true
+  sized : Sized u
+  machine : u .algorithm ≡ unbounded
+  count : u .n ≡ n
+  mirrors : Mirrors n b (view u)
+
+fresh-beside : (n : ℕ) → countOk n ≡ true → Beside n (freshTable unbounded n) (freshTable bounded n)
+fresh-beside n c =
+    record {
+      formed = fresh-well-formed unbounded n refl c;
+      sized = fresh-sized unbounded n;
+      machine = refl;
+      count = refl;
+      mirrors = subst (Mirrors n (freshTable bounded n)) (sym (fresh-view unbounded n)) (fresh-mirrors n c);
+    }
+
+module _ (n : ℕ) (u b : Table) (beside : Beside n u b) where
+  shows : view b ≡ remainders (u .n - 1) (view u)
+  shows = subst (λ (k : ℕ). view b ≡ remainders (k - 1) (view u)) (sym (beside .count)) (beside .mirrors .shows)
+
+  -- demand 3's words hold of the two
+  beside-meets : meets n u b ≡ true
+  unfolding meets
+  beside-meets =
+      let m = beside .mirrors in
+      let same = agree-view u b (beside .formed) (m .formed) (beside .sized) (m .sized) shows in
+      let exclusive = mutual-exclusion (n - 1) (view u) (m .invariant) in
+      and-both
+      (and-both
+      (subst (λ (k : ℕ). agree (modulusOf k) u b ≡ true) (beside .count) same)
+      (at-most-one-view u (beside .formed) (beside .sized) (rw (beside .count) exclusive)))
+      (mirror-at-most-one n b (view u) m)
+
+  same-line : (i : ℕ) → 1 ≤ i → i ≤ slots → rowOf b i .line ≡ rowOf u i .line
+  same-line = line-view u b (beside .formed) (beside .mirrors .formed) (beside .sized) (beside .mirrors .sized) shows
+
+  -- so as many wait
+  same-waiting : waitingOf b ≡ waitingOf u
+  same-waiting = many-same (isWaiting b) (isWaiting u) slots (λ i low high. ap (within 6 7) (same-line i low high))
+
+  -- A byte that the unbounded machine takes.
+  module _ (i : ℕ) (taken : stepOf u i .stop ≡ noRefusal) where
+    low : 1 ≤ i
+    low = step-process u i taken .1
+
+    high : i ≤ n
+    high = omega (arith, beside .count, step-process u i taken .2)
+
+    seen : StepSeen unbounded n u i
+    seen = step-seen u i (beside .formed) (beside .sized) taken (beside .machine) (beside .count)
+
+    -- the bounded one takes it
+    also-taken : stepOf b i .stop ≡ noRefusal
+    also-taken = mirror-accepts n b (view u) (beside .mirrors) i low high
+
+    -- with the same mark
+    same-turn : turnOf b i ≡ turnOf u i
+    same-turn =
+        let most : n ≤ slots = omega (arith, beside .count, table-rules u (beside .formed) .most) in
+        let mark = mirror-mark n b (view u) (beside .mirrors) i low high ∙ sym (seen .mark) in
+        λ at. record { process = i; line = same-line i low (omega (arith, high)) at; mark = mark at }
+
+    -- and the tables after it are beside each other again
+    step-beside : Beside n (stepOf u i .table) (stepOf b i .table)
+    step-beside =
+        record {
+          formed = step-well-formed u i (beside .formed) (beside .sized);
+          sized = step-sized u i (beside .sized);
+          machine = step-machine u i .0 ∙ beside .machine;
+          count = step-machine u i .1 ∙ beside .count;
+          mirrors = subst (Mirrors n (stepOf b i .table)) (sym (seen .table)) (mirror-step n b (view u) (beside .mirrors) i low high);
+        }
+
+-- The courses of both over the same bytes.
+record Courses (n : ℕ) (u b : Course) : Type 0 where
+  stop : b .stop ≡ noRefusal
+  turns : b .turns ≡ u .turns
+  tables : Beside n (u .table) (b .table)
+
+-- until the unbounded machine refuses a byte
+courses-until : (n : ℕ) (u b : Table) (schedule : List ℕ) → Beside n u b
+    → Courses n (courseOf u schedule) (courseOf b (takenIn (courseOf u schedule) schedule))
+unfolding courseOf
+courses-until n u b [] beside = record { stop = refl; turns = refl; tables = beside }
+courses-until n u b (i ∷ later) beside =
+    by-test (λ (c : Course). Courses n c (courseOf b (takenIn c (i ∷ later)))) (eqb (stepOf u i .stop) noRefusal)
+    (λ t.
+    let taken = eqb-true (stepOf u i .stop) noRefusal t in
+    let next = stepOf u i .table in
+    let rest = courses-until n next (stepOf b i .table) later (step-beside n u b beside i taken) in
+    subst (Courses n (begunBy (turnOf u i ∷ []) (courseOf next later)))
+    (sym (course-first b i (takenIn (courseOf next later) later) (also-taken n u b beside i taken)))
+    (record { stop = rest .stop; turns = λ at. same-turn n u b beside i taken at ∷ rest .turns at; tables = rest .tables }))
+    (λ _. record { stop = refl; turns = refl; tables = beside })
+
+-- where it refuses none
+courses : (n : ℕ) (u b : Table) (schedule : List ℕ) → Beside n u b → courseOf u schedule .stop ≡ noRefusal
+    → Courses n (courseOf u schedule) (courseOf b schedule)
+courses n u b schedule beside accepted =
+    let all : takenIn (courseOf u schedule) schedule ≡ schedule =
+    ap (λ (k : ℕ). take k schedule) (all-taken u schedule accepted) ∙ take-length schedule in
+    subst (λ (bytes : List ℕ). Courses n (courseOf u schedule) (courseOf b bytes)) all (courses-until n u b schedule beside)
+
+pub demand-3 : Demand3
+demand-3 n c schedule accepted =
+    let both = courses n _ _ schedule (fresh-beside n c) accepted in
+    (both .stop, beside-meets n _ _ (both .tables))
+
+pub until-refused : UntilRefused
+until-refused n c schedule =
+    let both = courses-until n _ _ schedule (fresh-beside n c) in
+    (both .stop, beside-meets n _ _ (both .tables))
+
+-- Both count alike.
+same-counts : (n : ℕ) (u b : Course) → Courses n u b → u .stop ≡ noRefusal → SameCounts (answerOf u) (answerOf b)
+same-counts n u b both accepted =
+    record {
+      moved = ap movedIn (both .turns);
+      waited = ap waitedIn (both .turns);
+      entries = ap entriesIn (both .turns);
+      waiting = same-waiting n (u .table) (b .table) (both .tables);
+      place = ap length (both .turns);
+      stop = both .stop ∙ sym accepted;
+    }
+
+pub alike : Alike
+alike n c schedule accepted =
+    let both = courses n _ _ schedule (fresh-beside n c) accepted in
+    (both .turns, same-counts n _ _ both accepted, ap enteredIn (both .turns))
+
+-- A run of each, from tables beside each other.
+module _ (n : ℕ) (u b : Table) (beside : Beside n u b) (p : Piece) (stop : runOf u (p .schedule) (p .buffer) .stop ≡ noRefusal) where
+  accepted : runRefusal u (p .schedule) (p .buffer) ≡ noRefusal
+  accepted = run-not-refused u (p .schedule) (p .buffer) stop
+
+  also-accepted : runRefusal b (p .schedule) (p .buffer) ≡ noRefusal
+  unfolding runRefusal
+  also-accepted = rw (beside .mirrors .formed) (rw (beside .formed) at accepted)
+
+  answer : runOf u (p .schedule) (p .buffer) ≡ answerOf (courseOf u (p .schedule))
+  answer = run-answer u (p .schedule) (p .buffer) accepted
+
+  also-answer : runOf b (p .schedule) (p .buffer) ≡ answerOf (courseOf b (p .schedule))
+  also-answer = run-answer b (p .schedule) (p .buffer) also-accepted
+
+  none-refused : courseOf u (p .schedule) .stop ≡ noRefusal
+  none-refused = ap (λ (r : Ran). r .stop) (sym answer) ∙ stop
+
+  both-run : Courses n (courseOf u (p .schedule)) (courseOf b (p .schedule))
+  both-run = courses n u b (p .schedule) beside none-refused
+
+  run-tables : Beside n (runOf u (p .schedule) (p .buffer) .table) (runOf b (p .schedule) (p .buffer) .table)
+  run-tables = rw (answer, also-answer) (both-run .tables)
+
+  run-counts : SameCounts (runOf u (p .schedule) (p .buffer)) (runOf b (p .schedule) (p .buffer))
+  run-counts = rw (answer, also-answer) (same-counts n _ _ both-run none-refused)
+
+  run-buffers : bufferOf b (p .schedule) (p .buffer) ≡ bufferOf u (p .schedule) (p .buffer)
+  run-buffers =
+      run-buffer b (p .schedule) (p .buffer) also-accepted
+      ∙ rw (both-run .turns) (sym (run-buffer u (p .schedule) (p .buffer) accepted))
+
+-- and of run after run
+runs-meet : (n : ℕ) (u b : Table) → Beside n u b → (pieces : List Piece) → RunsMeet n u b pieces
+runs-meet n u b beside [] = tt
+runs-meet n u b beside (p ∷ later) =
+    λ stop.
+    let tables = run-tables n u b beside p stop in
+    (beside-meets n _ _ tables, run-counts n u b beside p stop, run-buffers n u b beside p stop, runs-meet n _ _ tables later)
+
+pub in-runs : InRuns
+in-runs n c = runs-meet n _ _ (fresh-beside n c)

@@ -1,0 +1,146 @@
+-- A step of document 01 is the theory's step, seen through the view of the table; and the bounded machine refuses no process.
+use Prim.Native.Nat.{ℕ, _-_, _≤_}
+use mathlib.Core.Path.{_≡_, refl, sym, ap, _∙_, subst, fun-ext}
+use mathlib.Core.Bool.{Bool, true, false, cond, not}
+use native.Mathlib.Omega.{arith}
+use borrow.Author.Tests.{eqb-true}
+use lib.Dec.{eqb}
+use Rattle.table.specs.Numbers.{slots, bounded, limitOf}
+use Rattle.table.specs.Refusals.{noRefusal}
+use Rattle.table.specs.Rules.{rowOf, wellFormed}
+use Rattle.table.specs.Fresh.{freshRow}
+use Rattle.table.specs.Sized.{Sized}
+use Rattle.table.specs.declared.Row.{Row}
+use Rattle.table.specs.declared.Table.{Table}
+use Rattle.table.proofs.Tests.{by-test, and-halves, within-yes}
+use Rattle.table.proofs.WellFormed.{table-rules, token-range}
+use Rattle.machine.specs.Step.{passes, line2, line4, line5, line6, line7, advanceOf, seenOf, putBack, takenOf, stepOf}
+use Rattle.machine.specs.declared.Seen.{Seen}
+use Rattle.machine.specs.declared.Advanced.{Advanced}
+use Rattle.machine.specs.declared.Stepped.{Stepped}
+use Rattle.machine.proofs.ByLine.{by-line}
+use Rattle.machine.proofs.Steps.{step-taken, step-process}
+use Rattle.theory.proofs.Tokens.{Token}
+use Rattle.theory.proofs.Model.{Place, State, isChoosing, set, put, moves, step}
+use Rattle.theory.proofs.Model as model
+use Rattle.demands.proofs.Views.{tokenOf, rowView, view, machineOf}
+use Rattle.demands.proofs.From1.{from1-set-view, row-from1}
+use Rattle.demands.proofs.RowViews.{choosing-view, ShowsOther, Shows, Follows, advance-view}
+
+-- a state in which is put what it has is as it was, so a choice of what is put is a choice of states
+put-same : (s : State) (i : ℕ) → put s i (s .x) (s .row i) ≡ s
+put-same s i = ap (λ (row : ℕ → model.Row). record { x = s .x; row = row }) (fun-ext each)
+  where
+    each : (k : ℕ) → set (s .row) i (s .row i) k ≡ s .row k
+    each k = by-test (λ (r : model.Row). r ≡ s .row k) (eqb k i) (λ e. ap (s .row) (sym (eqb-true k i e))) (λ _. refl)
+
+put-choice : (s : State) (i : ℕ) (moves : Bool) (x : Token) (r : model.Row)
+    → put s i (cond moves x (s .x)) (cond moves r (s .row i)) ≡ cond moves (put s i x r) s
+put-choice s i true x r = refl
+put-choice s i false x r = put-same s i
+
+-- the view of a table in which a row and X are put back
+view-put : (t : Table) (i : ℕ) (a : Advanced) → Sized t → 1 ≤ i → i ≤ slots
+    → view (putBack t i a) ≡ put (view t) i (tokenOf (a .x)) (rowView (a .row))
+view-put t i a z low high =
+    ap (λ (row : ℕ → model.Row). record { x = tokenOf (a .x); row = row })
+    (from1-set-view freshRow rowView (t .rows) i (a .row) low (omega (arith, z .rows)))
+
+-- The step of process i of a table, and its mark, are those of the theory's machine.
+pub record StepSeen (algorithm n : ℕ) (t : Table) (i : ℕ) : Type 0 where
+  pub table : view (stepOf t i .table) ≡ step (n - 1) (machineOf algorithm (n - 1)) (view t) i
+  pub mark : stepOf t i .mark ≡ cond (moves (machineOf algorithm (n - 1)) (view t) i) 1 0
+
+-- A step that is not refused, of a table that is well formed.
+module _ (t : Table) (i : ℕ) (w : wellFormed t ≡ true) (z : Sized t) (accepted : stepOf t i .stop ≡ noRefusal) where
+  -- it is the step of a process
+  low : 1 ≤ i
+  low = step-process t i accepted .1
+
+  high : i ≤ t .n
+  high = step-process t i accepted .2
+
+  taken : stepOf t i ≡ takenOf t i
+  taken = step-taken t i w (within-yes 1 (t .n) i low high)
+
+  abbrev advanced : Advanced
+  advanced = advanceOf (t .algorithm) (t .n) i (seenOf t (rowOf t i)) (rowOf t i)
+
+  -- what it sees is in the view
+  in-table : {j : ℕ} → j ≤ t .n → j ≤ slots
+  in-table h = omega (arith, table-rules t w .most)
+
+  row-view : (j : ℕ) → 1 ≤ j → j ≤ t .n → view t .row j ≡ rowView (rowOf t j)
+  row-view j l h = ap rowView (sym (row-from1 t z j l (in-table h)))
+
+  shown : Shows (t .n) i (view t) (seenOf t (rowOf t i)) (rowOf t i)
+  shown = record { own = row-view i low high; x = refl; other = other (rowOf t i .index) }
+    where
+      other : (j : ℕ) → 1 ≤ j → j ≤ t .n
+          → ShowsOther (view t) j (record { choosing = rowOf t j .choosing; token = rowOf t j .token; x = t .x })
+      other j l h =
+          let rules = table-rules t w .rows j l (in-table h) in
+          record {
+            token = ap (λ (r : model.Row). r .token) (row-view j l h);
+            least = and-halves _ _ (token-range (limitOf (t .algorithm) (t .n)) _ _ (rules .token)) .0;
+            choosing = ap (λ (r : model.Row). not (isChoosing (r .place))) (row-view j l h) ∙ choosing-view rules;
+          }
+
+  -- so it leaves what the theory's step leaves
+  followed : Follows (t .algorithm) (t .n) i (view t) (view t .row i .place) advanced
+  unfolding takenOf
+  followed =
+      let rules = table-rules t w in
+      let place = ap (λ (r : model.Row). r .place) (sym (shown .own)) in
+      subst (λ (p : Place). Follows (t .algorithm) (t .n) i (view t) p advanced) place
+      (advance-view (t .algorithm) (t .n) i (view t) (seenOf t (rowOf t i)) (rowOf t i) (rules .some) (rules .most)
+      (z .cells i low (in-table high)) shown (rules .rows i low (in-table high))
+      (ap (λ (u : Stepped). u .stop) (sym taken) ∙ accepted))
+
+  step-view : view (stepOf t i .table) ≡ step (t .n - 1) (machineOf (t .algorithm) (t .n - 1)) (view t) i
+  unfolding takenOf
+  step-view =
+      ap (λ (u : Stepped). view (u .table)) taken
+      ∙ view-put t i advanced z low (in-table high)
+      ∙ (λ at. put (view t) i (followed .x at) (followed .row at))
+      ∙ put-choice (view t) i (moves (machineOf (t .algorithm) (t .n - 1)) (view t) i) _ _
+
+  mark-view : stepOf t i .mark ≡ cond (moves (machineOf (t .algorithm) (t .n - 1)) (view t) i) 1 0
+  unfolding takenOf
+  mark-view = ap (λ (u : Stepped). u .mark) taken ∙ followed .mark
+
+  -- The theorem: seen through the view, it is the step of the theory's machine of that algorithm, for that many processes, and its mark is 1
+  -- just where that one moves.
+  pub step-seen : {algorithm n : ℕ} → t .algorithm ≡ algorithm → t .n ≡ n → StepSeen algorithm n t i
+  step-seen {algorithm} {n} same-machine same-count =
+      subst (λ (k : ℕ). StepSeen algorithm k t i) same-count
+      (subst (λ (a : ℕ). StepSeen a (t .n) t i) same-machine (record { table = step-view; mark = mark-view }))
+
+-- The bounded machine refuses no step of a process.
+abbrev Accepted : Advanced → Type 0
+Accepted a = a .stop ≡ noRefusal
+
+bounded-advances : (n i : ℕ) (seen : Seen) (r : Row) → Accepted (advanceOf bounded n i seen r)
+unfolding line2 line4 line5 line6 line7
+bounded-advances n i seen r =
+    by-line bounded n i seen r Accepted
+    (record {
+      at1 = λ _. refl;
+      at2 = λ _. by-test Accepted (eqb (r .index) n) (λ _. refl) (λ _. refl);
+      at3 = λ _. refl;
+      at4 = λ _. refl;
+      at5 = λ _. refl;
+      at6 = λ _. by-test Accepted (eqb (seen .choosing) 0) (λ _. refl) (λ _. refl);
+      at7 = λ _. by-test Accepted (passes bounded n i seen r) (λ _. refl) (λ _. refl);
+      at8 = λ _. refl;
+      at9 = λ _. refl;
+      at10 = λ _. refl;
+      elsewhere = refl;
+    })
+
+pub bounded-accepts : (t : Table) (i : ℕ) → wellFormed t ≡ true → t .algorithm ≡ bounded → 1 ≤ i → i ≤ t .n
+    → stepOf t i .stop ≡ noRefusal
+unfolding takenOf
+bounded-accepts t i w algorithm low high =
+    ap (λ (u : Stepped). u .stop) (step-taken t i w (within-yes 1 (t .n) i low high))
+    ∙ rw algorithm (bounded-advances (t .n) i (seenOf t (rowOf t i)) (rowOf t i))

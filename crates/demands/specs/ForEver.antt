@@ -1,0 +1,43 @@
+-- The bounded machine for ever: after every schedule, with no word of the unbounded machine and its limit of tokens.
+use Prim.Native.Nat.{ℕ, _-_, _≤_}
+use mathlib.Core.Path.{_≡_}
+use mathlib.Core.Bool.{true, false}
+use mathlib.Core.Logic.{_⊎_}
+use mathlib.Core.List.{List}
+use lib.IntN.{_-ℤ_}
+use Rattle.table.specs.Numbers.{bounded, isNone, modulusOf}
+use Rattle.table.specs.Rules.{rowOf, countOk}
+use Rattle.table.specs.Fresh.{freshTable}
+use Rattle.table.specs.declared.Table.{Table}
+use Rattle.machine.specs.Tokens.{remainder}
+use Rattle.machine.specs.Run.{courseOf}
+use Rattle.demands.specs.Agreement.{atMostOne}
+
+-- process i of n holds a token
+pub record Holds (n : ℕ) (t : Table) (i : ℕ) : Type 0 where
+  pub low : 1 ≤ i
+  pub high : i ≤ n
+  pub token : isNone (rowOf t i .token) ≡ false
+
+-- how far the token of j is ahead of the token of i, going round modulo 2n - 1
+abbrev pub aheadOf : ℕ → Table → ℕ → ℕ → ℕ
+aheadOf n t i j = remainder (rowOf t j .token -ℤ rowOf t i .token) (modulusOf n)
+
+-- "any two held tokens are within n - 1 of each other going round modulo 2n - 1"
+abbrev pub Spread : ℕ → Table → Type 0
+Spread n t = (i j : ℕ) → Holds n t i → Holds n t j → (aheadOf n t i j ≤ n - 1) ⊎ (aheadOf n t j i ≤ n - 1)
+
+-- That much is so of any two remainders modulo 2n - 1. What is meant is more: the held tokens lie together, on n numbers one after the
+-- other going round, from the token of some process on.
+pub record OneArc (n : ℕ) (t : Table) : Type 0 where
+  pub from : ℕ
+  pub holds : Holds n t from
+  pub all : (j : ℕ) → Holds n t j → aheadOf n t from j ≤ n - 1
+
+-- A course ends at the first byte that is refused, and the bounded machine refuses none but 0 and those above n; so the table is the one
+-- after the bytes that it takes, whatever comes then.
+abbrev pub BoundedForEver : Type 0
+BoundedForEver =
+    (n : ℕ) → countOk n ≡ true → (schedule : List ℕ)
+    → let t = courseOf (freshTable bounded n) schedule .table in
+    (atMostOne t ≡ true) × Spread n t × ((i : ℕ) → Holds n t i → OneArc n t)

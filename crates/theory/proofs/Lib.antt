@@ -1,0 +1,9 @@
+pub mod Counting
+pub mod Tokens
+pub mod Remainders
+pub mod Model
+pub mod Invariant
+pub mod Turns
+pub mod Lines
+pub mod Theorems
+pub mod Bounded

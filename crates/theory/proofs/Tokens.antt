@@ -1,0 +1,79 @@
+-- Tokens, and the two operations on them in which the machines differ: the next token, and who goes before.
+--
+-- n is `suc others`: each process has `others` others. So n - 1 is `others`, 2n - 1 is `modulus others`, and nothing is subtracted.
+use Prim.Native.Nat.{ℕ, zero, suc, _+_, _-_, _%_, _≤_, max}
+use mathlib.Core.Bool.{Bool, _&&_, _||_}
+use lib.Dec.{ltb, eqb}
+use Rattle.table.specs.Tests.{within}
+use Rattle.theory.proofs.Counting.{largest}
+
+-- In this proof a token is carried as the number one above it, and none as 0, because the prover's arithmetic reads natural numbers and
+-- -1 is not one. Order and distance are the same on both sides of that, and no statement shows it: they say `none` and `held v`.
+abbrev pub Token : Type 0
+Token = ℕ
+
+abbrev pub none : Token
+none = 0
+
+-- the token v
+abbrev pub held : ℕ → Token
+held v = suc v
+
+abbrev pub IsHeld : Token → Type 0
+IsHeld t = 1 ≤ t
+
+-- the v of a token that is held
+abbrev pub numberOf : Token → ℕ
+numberOf t = t - 1
+
+-- 2n - 1
+abbrev pub modulus : ℕ → ℕ
+modulus others = suc (others + others)
+
+-- source 002's f: none for none, and the remainder modulo 2n - 1 of a token
+abbrev pub reduced : ℕ → Token → Token
+reduced others zero = none
+reduced others (suc v) = held (v % modulus others)
+
+-- a machine, by what it does with tokens: the next one after a pivot and the cells 1 to n, and whether process i with one token goes before
+-- process j with another
+pub record Machine : Type 0 where
+  pub next : Token → (ℕ → Token) → Token
+  pub goesBefore : ℕ → Token → ℕ → Token → Bool
+
+-- UB-Bakery. One more than the largest: of the pivot and the cells.
+unfoldable pub nextUnbounded : ℕ → Token → (ℕ → Token) → Token
+nextUnbounded others pivot cell = suc (max pivot (largest cell (suc others)))
+
+unfoldable pub beforeUnbounded : ℕ → Token → ℕ → Token → Bool
+beforeUnbounded i t j u = ltb t u || eqb t u && ltb i j
+
+abbrev pub unboundedMachine : ℕ → Machine
+unboundedMachine others = record { next = nextUnbounded others; goesBefore = beforeUnbounded }
+
+-- B-Bakery, on remainders. (v + n - 1 - p) mod (2n - 1), where p is below 2n - 1: p at the middle, n - 1 on either side of it.
+abbrev pub shift : ℕ → ℕ → ℕ → ℕ
+shift others p v = (v + others + (modulus others - p)) % modulus others
+
+unfoldable pub shifted : ℕ → ℕ → Token → Token
+shifted others p zero = none
+shifted others p (suc v) = held (shift others p v)
+
+-- the largest of the shifted pivot and cells, shifted back, and one more: (m + p - n + 2) mod (2n - 1), with 2n - 1 added before
+unfoldable pub nextBounded : ℕ → Token → (ℕ → Token) → Token
+nextBounded others pivot cell =
+    let p = numberOf pivot in
+    let m = max (shifted others p pivot) (largest (λ k. shifted others p (cell k)) (suc others)) in
+    held ((numberOf m + p + others + 2) % modulus others)
+
+-- how far w is ahead of v, going round: (w - v) mod (2n - 1), where v is below 2n - 1
+abbrev pub ahead : ℕ → ℕ → ℕ → ℕ
+ahead others v w = (w + (modulus others - v)) % modulus others
+
+unfoldable pub beforeBounded : ℕ → ℕ → Token → ℕ → Token → Bool
+beforeBounded others i t j u =
+    let d = ahead others (numberOf t) (numberOf u) in
+    within 1 others d || eqb d 0 && ltb i j
+
+abbrev pub boundedMachine : ℕ → Machine
+boundedMachine others = record { next = nextBounded others; goesBefore = beforeBounded others }
