@@ -25,7 +25,7 @@ use Rattle.theory.proofs.Theorems as theory
 use Rattle.demands.specs.Agreement.{f, isRemainder, cellAgrees, rowAgrees, rowAtAgrees, agree, isCriticalLine, isCritical, atMostOne}
 use Rattle.demands.proofs.Views.{tokenOf, placeOf, rowView, view}
 use Rattle.demands.proofs.From1.{row-from1, cell-from1}
-use Rattle.demands.proofs.RowFacts.{each-line, line-range, FromNone, from-zero, token-from, pivot-from, cell-from}
+use Rattle.demands.proofs.RowFacts.{each-line, line-range, FromNone, from-zero, token-from-none, pivot-from-none, cell-from-none}
 
 -- Places.
 
@@ -86,7 +86,7 @@ choosing-of-line line choosing e = by-range (within 2 5 line) e
     by-range true e = eqb-true choosing 1 e
     by-range false e = eqb-true choosing 0 e
 
--- where the view of one number is the remainder of another's, the number is
+-- where the view of one number is the remainder of another's view, the number is the other's remainder
 number-agrees : (others : ℕ) (u b : ℤ) → FromNone b → tokenOf b ≡ reduced others (tokenOf u) → isRemainder (modulus others) u b ≡ true
 unfolding isRemainder f
 number-agrees others (pos v) (pos w) _ e = eq-eqb w _ (omega (arith, e))
@@ -129,19 +129,19 @@ module _ {others i n₁ n₂ : ℕ} {top₁ top₂ : ℤ} {u b : Row} (rules-u :
   -- and token, pivot and each cell of the second is the remainder of the first's
   token-agrees : isRemainder (modulus others) (u .token) (b .token) ≡ true
   token-agrees =
-      number-agrees others (u .token) (b .token) (token-from top₂ (b .line) (b .token) (rules-b .token))
+      number-agrees others (u .token) (b .token) (token-from-none top₂ (b .line) (b .token) (rules-b .token))
       (ap (λ (r : model.Row). r .token) viewed)
 
   pivot-agrees : isRemainder (modulus others) (u .pivot) (b .pivot) ≡ true
   pivot-agrees =
-      number-agrees others (u .pivot) (b .pivot) (pivot-from top₂ (b .line) (b .pivot) (rules-b .pivot))
+      number-agrees others (u .pivot) (b .pivot) (pivot-from-none top₂ (b .line) (b .pivot) (rules-b .pivot))
       (ap (λ (r : model.Row). r .pivot) viewed)
 
   module _ (cells-u : length (u .cells) ≡ slots) (cells-b : length (b .cells) ≡ slots) where
     cell-agrees : (j : ℕ) → 1 ≤ j → j ≤ slots → cellAgrees (modulus others) u b j ≡ true
     unfolding cellAgrees cellRule
     cell-agrees j low high =
-        number-agrees others (cellOf u j) (cellOf b j) (cell-from top₂ _ (cellOf b j) (rules-b .cells j low high))
+        number-agrees others (cellOf u j) (cellOf b j) (cell-from-none top₂ _ (cellOf b j) (rules-b .cells j low high))
         (rw (cell-from1 u cells-u j low high, cell-from1 b cells-b j low high) (ap (λ (r : model.Row). r .cell j) viewed))
 
     -- so they agree
@@ -158,41 +158,42 @@ module _ {others i n₁ n₂ : ℕ} {top₁ top₂ : ℤ} {u b : Row} (rules-u :
 
 -- Tables.
 
-module _ (u b : Table) (formed-u : wellFormed u ≡ true) (formed-b : wellFormed b ≡ true) (sized-u : Sized u) (sized-b : Sized b) where
-  -- what the views of both say of row i
-  row-viewed : view b ≡ remainders (u .n - 1) (view u) → (i : ℕ) → 1 ≤ i → i ≤ slots
-      → rowView (rowOf b i) ≡ rowReduced (u .n - 1) (rowView (rowOf u i))
-  row-viewed viewed i low high =
+-- two tables, where the view of the second is the remainders of the first's
+module _ (u b : Table) (formed-u : wellFormed u ≡ true) (formed-b : wellFormed b ≡ true) (sized-u : Sized u) (sized-b : Sized b)
+    (viewed : view b ≡ remainders (u .n - 1) (view u)) where
+  -- so it is with row i of both
+  row-viewed : (i : ℕ) → 1 ≤ i → i ≤ slots → rowView (rowOf b i) ≡ rowReduced (u .n - 1) (rowView (rowOf u i))
+  row-viewed i low high =
       rw (row-from1 u sized-u i low high, row-from1 b sized-b i low high) (ap (λ (s : model.State). s .row i) viewed)
 
   -- row i of both is at the same line
-  pub line-view : view b ≡ remainders (u .n - 1) (view u) → (i : ℕ) → 1 ≤ i → i ≤ slots → rowOf b i .line ≡ rowOf u i .line
-  line-view viewed i low high =
-      same-line (table-rules u formed-u .rows i low high) (table-rules b formed-b .rows i low high) (row-viewed viewed i low high)
+  pub line-view : (i : ℕ) → 1 ≤ i → i ≤ slots → rowOf b i .line ≡ rowOf u i .line
+  line-view i low high =
+      same-line (table-rules u formed-u .rows i low high) (table-rules b formed-b .rows i low high) (row-viewed i low high)
 
   -- row i of both agrees
-  row-at-agrees : view b ≡ remainders (u .n - 1) (view u) → (i : ℕ) → 1 ≤ i → i ≤ slots → rowAtAgrees (modulus (u .n - 1)) u b i ≡ true
+  row-at-agrees : (i : ℕ) → 1 ≤ i → i ≤ slots → rowAtAgrees (modulus (u .n - 1)) u b i ≡ true
   unfolding rowAtAgrees
-  row-at-agrees viewed i low high =
-      row-agrees (table-rules u formed-u .rows i low high) (table-rules b formed-b .rows i low high) (row-viewed viewed i low high)
+  row-at-agrees i low high =
+      row-agrees (table-rules u formed-u .rows i low high) (table-rules b formed-b .rows i low high) (row-viewed i low high)
       (sized-u .cells i low high) (sized-b .cells i low high)
 
   -- X of the second is the remainder of the first's
-  x-agrees : view b ≡ remainders (u .n - 1) (view u) → isRemainder (modulus (u .n - 1)) (u .x) (b .x) ≡ true
-  x-agrees viewed =
+  x-agrees : isRemainder (modulus (u .n - 1)) (u .x) (b .x) ≡ true
+  x-agrees =
       number-agrees (u .n - 1) (u .x) (b .x) (from-zero _ (b .x) (table-rules b formed-b .x)) (ap (λ (s : model.State). s .x) viewed)
 
-  -- the view of a bounded table that is the remainders of the unbounded one's: the tables agree
-  pub agree-view : view b ≡ remainders (u .n - 1) (view u) → agree (modulusOf (u .n)) u b ≡ true
+  -- so the tables agree
+  pub agree-view : agree (modulusOf (u .n)) u b ≡ true
   unfolding agree
-  agree-view viewed =
+  agree-view =
       let m : modulusOf (u .n) ≡ modulus (u .n - 1) = omega (arith, table-rules u formed-u .some) in
-      rw m (and-both (x-agrees viewed) (every-all (rowAtAgrees (modulus (u .n - 1)) u b) slots (row-at-agrees viewed)))
+      rw m (and-both x-agrees (every-all (rowAtAgrees (modulus (u .n - 1)) u b) slots row-at-agrees))
 
 -- Exclusion.
 
 module _ (holds : ℕ → Bool) where
-  -- what holds of none of 1 to k is counted 0 times,
+  -- what holds of none of 1 to k is counted 0 times there,
   none-counted : (k : ℕ) → ((i : ℕ) → Process k i → holds i ≡ true → ⊥) → howMany holds k ≡ 0
   unfolding howMany
   none-counted zero never = refl

@@ -46,21 +46,21 @@ shown-held (negsuc a) number e = absurd (omega (arith, e))
 
 module _ (n : ℕ) (b : Table) (s : State) (m : Mirrors n b s) where
   some : 1 ≤ n
-  some = omega (arith, m .count, table-rules b (m .formed) .some)
+  some = omega (arith, m .table .count, table-rules b (m .table .formed) .some)
 
   in-table : {i : ℕ} → i ≤ n → i ≤ slots
-  in-table high = omega (arith, m .count, table-rules b (m .formed) .most)
+  in-table high = omega (arith, m .table .count, table-rules b (m .table .formed) .most)
 
   -- the token of a process that holds one: a number below 2n - 1, and the view shows it
   token-number : (i : ℕ) → Holds n b i → Number (2 * n - 2) (rowOf b i .token)
   unfolding limitOf
   token-number i h =
-      let rules = table-rules b (m .formed) .rows i (h .low) (in-table (h .high)) in
+      let rules = table-rules b (m .table .formed) .rows i (h .low) (in-table (h .high)) in
       let range = token-range (limitOf (b .algorithm) (b .n)) (rowOf b i .line) (rowOf b i .token) (rules .token) in
-      held-number (2 * n - 2) (rowOf b i .token) (rw (m .machine, m .count) at range) (h .token)
+      held-number (2 * n - 2) (rowOf b i .token) (rw (m .table .machine, m .table .count) at range) (h .token)
 
   token-shown : (i : ℕ) → 1 ≤ i → i ≤ n → view b .row i .token ≡ tokenOf (rowOf b i .token)
-  token-shown i low high = ap (λ r. tokenOf (r .token)) (sym (row-from1 b (m .sized) i low (in-table high)))
+  token-shown i low high = ap (λ r. tokenOf (r .token)) (sym (row-from1 b (m .table .sized) i low (in-table high)))
 
   process : {i : ℕ} → Holds n b i → Process (suc (n - 1)) i
   process h = record { low = h .low; high = omega (arith, h .high) }

@@ -1,5 +1,5 @@
--- A bounded table beside the theory: it shows, on remainders, what the theory's unbounded machine has come to over the same bytes. That machine
--- has no limit of tokens, so this holds for ever.
+-- A bounded table beside the theory: it shows, on remainders, what the theory's unbounded machine has come to over the same bytes. That
+-- machine has no limit of tokens, so this holds for ever.
 use Prim.Native.Nat.{ℕ, suc, _-_, _≤_}
 use mathlib.Core.Path.{_≡_, refl, sym, ap, subst, _∙_}
 use mathlib.Core.Bool.{Bool, true, cond}
@@ -9,7 +9,7 @@ use borrow.Author.Tests.{eqb-true}
 use lib.Dec.{eqb}
 use Rattle.table.specs.Numbers.{bounded}
 use Rattle.table.specs.Refusals.{noRefusal}
-use Rattle.table.specs.Rules.{countOk, wellFormed}
+use Rattle.table.specs.Rules.{algorithmOk, countOk, wellFormed}
 use Rattle.table.specs.Fresh.{freshTable}
 use Rattle.table.specs.Sized.{Sized}
 use Rattle.table.specs.declared.Table.{Table}
@@ -31,72 +31,88 @@ use Rattle.demands.proofs.From1.{fresh-view}
 use Rattle.demands.proofs.StepViews.{StepSeen, step-seen, bounded-accepts}
 use Rattle.demands.proofs.Agreement.{at-most-one-view}
 
+-- a table that is well formed, of one machine and for n processes
+pub record TableFor (algorithm n : ℕ) (t : Table) : Type 0 where
+  pub formed : wellFormed t ≡ true
+  pub sized : Sized t
+  pub machine : t .algorithm ≡ algorithm
+  pub count : t .n ≡ n
+
+-- a fresh one, and one that a step leaves
+pub fresh-table-for : (algorithm n : ℕ) → algorithmOk algorithm ≡ true → countOk n ≡ true → TableFor algorithm n (freshTable algorithm n)
+fresh-table-for algorithm n known c =
+    record { formed = fresh-well-formed algorithm n known c; sized = fresh-sized algorithm n; machine = refl; count = refl }
+
+pub step-table-for : {algorithm n : ℕ} (t : Table) (i : ℕ) → TableFor algorithm n t → TableFor algorithm n (stepOf t i .table)
+step-table-for t i for =
+    record {
+      formed = step-well-formed t i (for .formed) (for .sized);
+      sized = step-sized t i (for .sized);
+      machine = step-machine t i .0 ∙ for .machine;
+      count = step-machine t i .1 ∙ for .count;
+    }
+
 -- the bounded table b for n processes shows the remainders of s, and s has the invariant
 pub record Mirrors (n : ℕ) (b : Table) (s : State) : Type 0 where
-  pub formed : wellFormed b ≡ true
-  pub sized : Sized b
-  pub machine : b .algorithm ≡ bounded
-  pub count : b .n ≡ n
+  pub table : TableFor bounded n b
   pub invariant : Invariant (n - 1) s
   pub shows : view b ≡ remainders (n - 1) s
 
+-- as the fresh table does of the fresh state
 pub fresh-mirrors : (n : ℕ) → countOk n ≡ true → Mirrors n (freshTable bounded n) fresh
 fresh-mirrors n c =
     record {
-      formed = fresh-well-formed bounded n refl c;
-      sized = fresh-sized bounded n;
-      machine = refl;
-      count = refl;
+      table = fresh-table-for bounded n refl c;
       invariant = fresh-invariant (n - 1);
       shows = fresh-view bounded n ∙ sym (fresh-on-remainders (n - 1));
     }
 
--- both take a step of process i
+-- Both take a step of process i.
 module _ (n : ℕ) (b : Table) (s : State) (m : Mirrors n b s) (i : ℕ) (low : 1 ≤ i) (high : i ≤ n) where
   process : Process (suc (n - 1)) i
   process = record { low = low; high = omega arith }
 
+  -- the table's is not refused,
   pub mirror-accepts : stepOf b i .stop ≡ noRefusal
-  mirror-accepts = bounded-accepts b i (m .formed) (m .machine) low (omega (arith, m .count))
+  mirror-accepts = bounded-accepts b i (m .table .formed) (m .table .machine) low (omega (arith, m .table .count))
 
-  near : Clustered (n - 1) s i
-  near = clustered (n - 1) s (m .invariant) i process
+  clusters : Clustered (n - 1) s i
+  clusters = clustered (n - 1) s (m .invariant) i process
 
   seen : StepSeen bounded n b i
-  seen = step-seen b i (m .formed) (m .sized) mirror-accepts (m .machine) (m .count)
+  seen = step-seen b i (m .table .formed) (m .table .sized) mirror-accepts (m .table .machine) (m .table .count)
 
+  -- has the mark of the state's,
   pub mirror-mark : stepOf b i .mark ≡ cond (moves (unboundedMachine (n - 1)) s i) 1 0
   mirror-mark =
       seen .mark
       ∙ ap (λ (shown : State). cond (moves (boundedMachine (n - 1)) shown i) 1 0) (m .shows)
-      ∙ ap (λ (can : Bool). cond can 1 0) (moves-on-remainders (n - 1) s i near)
+      ∙ ap (λ (can : Bool). cond can 1 0) (moves-on-remainders (n - 1) s i clusters)
 
+  -- and leaves a table that shows what the state's leaves
   pub mirror-step : Mirrors n (stepOf b i .table) (step (n - 1) (unboundedMachine (n - 1)) s i)
   mirror-step =
       record {
-        formed = step-well-formed b i (m .formed) (m .sized);
-        sized = step-sized b i (m .sized);
-        machine = step-machine b i .0 ∙ m .machine;
-        count = step-machine b i .1 ∙ m .count;
+        table = step-table-for b i (m .table);
         invariant = step-keeps (n - 1) s (m .invariant) i process;
         shows =
             seen .table
             ∙ ap (λ (shown : State). step (n - 1) (boundedMachine (n - 1)) shown i) (m .shows)
-            ∙ step-on-remainders (n - 1) s i near;
+            ∙ step-on-remainders (n - 1) s i clusters;
       }
 
--- at most one process stands at lines 8 to 10
+-- At such a table at most one process stands at lines 8 to 10.
 pub mirror-at-most-one : (n : ℕ) (b : Table) (s : State) → Mirrors n b s → atMostOne b ≡ true
 mirror-at-most-one n b s m =
-    at-most-one-view b (m .formed) (m .sized)
-    (rw (m .count) (subst (Exclusive (n - 1)) (sym (m .shows)) (mutual-exclusion (n - 1) s (m .invariant))))
+    at-most-one-view b (m .table .formed) (m .table .sized)
+    (rw (m .table .count) (subst (Exclusive (n - 1)) (sym (m .shows)) (mutual-exclusion (n - 1) s (m .invariant))))
 
 -- a table that shows some state
 pub record Mirror (n : ℕ) (b : Table) : Type 0 where
   pub state : State
   pub mirrors : Mirrors n b state
 
--- and so after every schedule
+-- and still does after every schedule
 pub mirror-course : (n : ℕ) (b : Table) (schedule : List ℕ) → Mirror n b → Mirror n (courseOf b schedule .table)
 unfolding courseOf
 mirror-course n b [] m = m
@@ -107,6 +123,6 @@ mirror-course n b (i ∷ later) m =
     mirror-course n (stepOf b i .table) later
     (record {
       state = step (n - 1) (unboundedMachine (n - 1)) (m .state) i;
-      mirrors = mirror-step n b (m .state) (m .mirrors) i low (omega (arith, m .mirrors .count, high));
+      mirrors = mirror-step n b (m .state) (m .mirrors) i low (omega (arith, m .mirrors .table .count, high));
     }))
     (λ _. m)

@@ -1,4 +1,4 @@
--- What the rules of a row say that its view needs: the line is one of ten, and no number is below -1.
+-- What its view needs of the rules of a row: that the line is one of ten, and that no number is below -1.
 use Prim.Native.Nat.{ℕ, _≤_}
 use mathlib.Core.Path.{_≡_, refl}
 use mathlib.Core.Bool.{Bool, true, false≢true}
@@ -21,7 +21,7 @@ each-line P p1 p2 p3 p4 p5 p6 p7 p8 p9 p10 =
     (up-to-next P 4 (up-to-next P 3 (up-to-next P 2 (up-to-next P 1 (up-to-next P 0
     (λ i low high. absurd (omega arith)) p1) p2) p3) p4) p5) p6) p7) p8) p9) p10
 
--- a line that keeps its rule is 1 to 10, also above n
+-- a line that keeps its rule is 1 to 10, also in a row above n
 pub line-range : (n i line : ℕ) → lineOk n i line ≡ true → (1 ≤ line) × (line ≤ 10)
 unfolding lineOk
 line-range n i line =
@@ -29,11 +29,11 @@ line-range n i line =
     (λ _ e. (within-low 1 10 line e, within-high 1 10 line e))
     (λ _ e. let first : line ≡ 1 = eqb-true line 1 e in (omega arith, omega arith))
 
--- -1, or not below 0: of these the view loses nothing
+-- from -1 on: of such a number the view loses nothing
 abbrev pub FromNone : ℤ → Type 0
 FromNone v = leZ none v ≡ true
 
--- a number from 0 on, and one that is none
+-- such is a number from 0 on, and one that is -1,
 pub from-zero : (top v : ℤ) → withinℤ (pos 0) top v ≡ true → FromNone v
 from-zero top (pos a) e = refl
 from-zero top (negsuc a) e = absurd (false≢true e)
@@ -41,20 +41,20 @@ from-zero top (negsuc a) e = absurd (false≢true e)
 from-none : (v : ℤ) → isNone v ≡ true → FromNone v
 from-none v e = rw (is-none v e)
 
--- a token, a pivot and a cell that keep their rules
-pub token-from : (top : ℤ) (line : ℕ) (v : ℤ) → tokenOk top line v ≡ true → FromNone v
+-- and so a token, a pivot and a cell that keep their rules
+pub token-from-none : (top : ℤ) (line : ℕ) (v : ℤ) → tokenOk top line v ≡ true → FromNone v
 unfolding tokenOk
-token-from top line v =
+token-from-none top line v =
     by-test (λ (ok : Bool). ok ≡ true → FromNone v) (within 1 4 line) (λ _. from-none v) (λ _. from-zero top v)
 
-pub pivot-from : (top : ℤ) (line : ℕ) (v : ℤ) → pivotOk top line v ≡ true → FromNone v
+pub pivot-from-none : (top : ℤ) (line : ℕ) (v : ℤ) → pivotOk top line v ≡ true → FromNone v
 unfolding pivotOk
-pivot-from top line v =
+pivot-from-none top line v =
     by-test (λ (ok : Bool). ok ≡ true → FromNone v) (eqb line 4) (λ _. from-zero top v) (λ _. from-none v)
 
-pub cell-from : (top : ℤ) (may : Bool) (v : ℤ) → cellOk top may v ≡ true → FromNone v
+pub cell-from-none : (top : ℤ) (may : Bool) (v : ℤ) → cellOk top may v ≡ true → FromNone v
 unfolding cellOk
-cell-from top may v =
+cell-from-none top may v =
     by-test (λ (ok : Bool). ok ≡ true → FromNone v) may
     (λ _ e. and-halves (leZ none v) (leZ v top) e .0)
     (λ _. from-none v)

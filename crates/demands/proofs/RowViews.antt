@@ -7,7 +7,6 @@ use native.Mathlib.Numerals.{add-one}
 use borrow.Author.Tests.{lt-leb, leb-true, eq-eqb, eqb-true}
 use lib.Dec.{leb, eqb, eqb·suc-zero}
 use lib.IntN.{ℤ, pos, negsuc}
-use lib.Signed.{leZ}
 use lib.ListN.{length}
 use Rattle.table.specs.Tests.{within, withinℤ}
 use Rattle.table.specs.Numbers.{slots, none, isNone, topOf}
@@ -28,11 +27,11 @@ use Rattle.theory.proofs.Model.{Place, at1, at2, at3, at4, at5, at6, at7, at8, 
 use Rattle.theory.proofs.Model.{State, isChoosing, goes, afterCell, movesAt, rowAfter, xAfter}
 use Rattle.theory.proofs.Model as model
 use Rattle.demands.proofs.Views.{tokenOf, placeOf, rowView, machineOf}
-use Rattle.demands.proofs.From1.{from1-set-view, each-cell, nothing-seen}
-use Rattle.demands.proofs.RowFacts.{each-line, line-range, cell-from}
-use Rattle.demands.proofs.TokenViews.{Cells, next-token-view, goes-before-view}
+use Rattle.demands.proofs.From1.{from1-set-view, each-cell, all-none-view}
+use Rattle.demands.proofs.RowFacts.{each-line, line-range, FromNone, cell-from-none}
+use Rattle.demands.proofs.TokenViews.{CellsFor, next-token-view, goes-before-view}
 
--- the choosing flag of a row that keeps its rules is 0 just where the theory's is not set
+-- the choosing flag of a row that keeps its rules is 0 just where the theory's process is not choosing
 pub choosing-view : {top : ℤ} {n i : ℕ} {r : Row} → RowRules top n i r → not (isChoosing (rowView r .place)) ≡ eqb (r .choosing) 0
 unfolding choosingOk
 choosing-view {top} {n} {i} {r} rules =
@@ -51,12 +50,12 @@ cell-above limit true v ok = is-none v ok
 cell-above limit false v ok = is-none v ok
 
 -- whether process i, which holds v, passes process j, which has the token w
-passes-view : (algorithm n i j : ℕ) (v w : ℤ) → 1 ≤ n → withinℤ (pos 0) (topOf algorithm n) v ≡ true → leZ none w ≡ true
+passes-view : (algorithm n i j : ℕ) (v w : ℤ) → 1 ≤ n → withinℤ (pos 0) (topOf algorithm n) v ≡ true → FromNone w
     → (isNone w || goesBefore algorithm n i v j w) ≡ model.passes (machineOf algorithm (n - 1)) i (tokenOf v) j (tokenOf w)
 passes-view algorithm n i j v (pos b) some range least = rw (eqb·suc-zero b) (goes-before-view algorithm n some i v j b range)
 passes-view algorithm n i j v (negsuc a) some range least = rw (eq-eqb a 0 (omega (arith, leb-true a 0 least)))
 
--- where a row goes on to after process j
+-- where process i goes on after process j
 next-other-view : (i j : ℕ) → nextOther i j ≡ model.nextOther i j
 unfolding nextOther
 next-other-view i j = let two : j + 2 ≡ suc (suc j) = omega arith in rw (add-one j, two)
@@ -73,7 +72,7 @@ goes-on-view n i j r = rw (next-other-view i j) (by-room (leb (model.nextOther i
 -- Process j of a state of the theory is what a step sees of it.
 pub record ShowsOther (s : State) (j : ℕ) (seen : Seen) : Type 0 where
   pub token : s .row j .token ≡ tokenOf (seen .token)
-  pub least : leZ none (seen .token) ≡ true
+  pub least : FromNone (seen .token)
   pub choosing : not (isChoosing (s .row j .place)) ≡ eqb (seen .choosing) 0
 
 -- Row i of the state, X, and the process that the index names are what the step of row r sees.
@@ -141,12 +140,12 @@ module _ (algorithm n i : ℕ) (s : State) where
     line3-view = moved at3 refl refl (rw (shows .own, shows .x))
 
     -- line 4: the cells are such as the next token asks for
-    cells-known : RulesAt 4 → Cells n (r .cells)
+    cells-known : RulesAt 4 → CellsFor n (r .cells)
     unfolding cellRule mayHold
     cells-known rules =
         record {
           wide = omega arith;
-          least = λ j. each-cell (λ (v : ℤ). leZ none v ≡ true) r sixteen refl j (λ low high. cell-from _ _ _ (rules .cells j low high));
+          least = λ j. each-cell FromNone r sixteen refl j (λ low high. cell-from-none _ _ _ (rules .cells j low high));
           above = λ j out. each-cell (λ (v : ℤ). v ≡ none) r sixteen refl j
               (λ low high. cell-above _ (not (eqb j i)) _ (rw (lt-leb j n out) at (rules .cells j low high)));
         }
@@ -159,7 +158,7 @@ module _ (algorithm n i : ℕ) (s : State) where
         (isAboveLimit algorithm (nextToken algorithm n (r .pivot) (r .cells)))
         (λ _ refused. absurd (omega arith))
         (λ _ _. moved at4 refl refl
-        (rw (shows .own) (λ at. record { place = at5; token = token at; pivot = theory.none; cell = nothing-seen at })))
+        (rw (shows .own) (λ at. record { place = at5; token = token at; pivot = theory.none; cell = all-none-view at })))
 
     line5-view : Follows at5 (line5 n i seen r)
     unfolding line5
@@ -180,6 +179,7 @@ module _ (algorithm n i : ℕ) (s : State) where
         (λ e. moved (at6 j) (choosing ∙ e) refl (ap (goes (at7 j)) (sym (shows .own))))
         (λ e. waited (at6 j) (choosing ∙ e))
 
+    -- at line 7 it moves just where it passes
     can-pass : RulesAt 7 → canMove (at7 (r .index)) ≡ passes algorithm n i seen r
     unfolding indexOk tokenOk
     can-pass rules =

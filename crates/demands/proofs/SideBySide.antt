@@ -11,17 +11,16 @@ use lib.Seq.{take-length}
 use Rattle.table.specs.Tests.{within}
 use Rattle.table.specs.Numbers.{slots, unbounded, bounded, modulusOf}
 use Rattle.table.specs.Refusals.{noRefusal}
-use Rattle.table.specs.Rules.{rowOf, countOk, wellFormed}
+use Rattle.table.specs.Rules.{rowOf, countOk}
 use Rattle.table.specs.Fresh.{freshTable}
-use Rattle.table.specs.Sized.{Sized}
 use Rattle.table.specs.declared.Table.{Table}
 use Rattle.table.proofs.Tests.{by-test, and-both, many-same}
-use Rattle.table.proofs.WellFormed.{table-rules, fresh-well-formed, fresh-sized}
+use Rattle.table.proofs.WellFormed.{table-rules}
 use Rattle.machine.specs.Step.{stepOf}
 use Rattle.machine.specs.Run.{Course, turnOf, begunBy, courseOf, movedIn, waitedIn, entriesIn, enteredIn, isWaiting, waitingOf, answerOf}
 use Rattle.machine.specs.Run.{runRefusal, runOf, bufferOf}
 use Rattle.machine.specs.declared.Ran.{Ran}
-use Rattle.machine.proofs.Steps.{step-machine, step-well-formed, step-sized, step-process}
+use Rattle.machine.proofs.Steps.{step-process}
 use Rattle.machine.proofs.Courses.{course-first, all-taken}
 use Rattle.machine.proofs.Runs.{run-not-refused, run-answer, run-buffer}
 use Rattle.theory.proofs.Theorems.{mutual-exclusion}
@@ -32,45 +31,43 @@ use Rattle.demands.proofs.Views.{view}
 use Rattle.demands.proofs.From1.{fresh-view}
 use Rattle.demands.proofs.StepViews.{StepSeen, step-seen}
 use Rattle.demands.proofs.Agreement.{line-view, agree-view, at-most-one-view}
+use Rattle.demands.proofs.Mirrors.{TableFor, fresh-table-for, step-table-for}
 use Rattle.demands.proofs.Mirrors.{Mirrors, fresh-mirrors, mirror-accepts, mirror-mark, mirror-step, mirror-at-most-one}
 
--- The unbounded table u and the bounded one b, for n processes, after the same bytes.
+-- The unbounded table u and the bounded one b, for n processes, after the same bytes: b mirrors what u shows.
 record Beside (n : ℕ) (u b : Table) : Type 0 where
-  formed : wellFormed u ≡ true
-  sized : Sized u
-  machine : u .algorithm ≡ unbounded
-  count : u .n ≡ n
+  table : TableFor unbounded n u
   mirrors : Mirrors n b (view u)
 
 fresh-beside : (n : ℕ) → countOk n ≡ true → Beside n (freshTable unbounded n) (freshTable bounded n)
 fresh-beside n c =
     record {
-      formed = fresh-well-formed unbounded n refl c;
-      sized = fresh-sized unbounded n;
-      machine = refl;
-      count = refl;
+      table = fresh-table-for unbounded n refl c;
       mirrors = subst (Mirrors n (freshTable bounded n)) (sym (fresh-view unbounded n)) (fresh-mirrors n c);
     }
 
 module _ (n : ℕ) (u b : Table) (beside : Beside n u b) where
   shows : view b ≡ remainders (u .n - 1) (view u)
-  shows = subst (λ (k : ℕ). view b ≡ remainders (k - 1) (view u)) (sym (beside .count)) (beside .mirrors .shows)
+  shows = subst (λ (k : ℕ). view b ≡ remainders (k - 1) (view u)) (sym (beside .table .count)) (beside .mirrors .shows)
 
   -- demand 3's words hold of the two
   beside-meets : meets n u b ≡ true
   unfolding meets
   beside-meets =
       let m = beside .mirrors in
-      let same = agree-view u b (beside .formed) (m .formed) (beside .sized) (m .sized) shows in
+      let same = agree-view u b (beside .table .formed) (m .table .formed) (beside .table .sized) (m .table .sized) shows in
       let exclusive = mutual-exclusion (n - 1) (view u) (m .invariant) in
       and-both
       (and-both
-      (subst (λ (k : ℕ). agree (modulusOf k) u b ≡ true) (beside .count) same)
-      (at-most-one-view u (beside .formed) (beside .sized) (rw (beside .count) exclusive)))
+      (subst (λ (k : ℕ). agree (modulusOf k) u b ≡ true) (beside .table .count) same)
+      (at-most-one-view u (beside .table .formed) (beside .table .sized) (rw (beside .table .count) exclusive)))
       (mirror-at-most-one n b (view u) m)
 
+  -- their rows are at the same lines
   same-line : (i : ℕ) → 1 ≤ i → i ≤ slots → rowOf b i .line ≡ rowOf u i .line
-  same-line = line-view u b (beside .formed) (beside .mirrors .formed) (beside .sized) (beside .mirrors .sized) shows
+  same-line =
+      let m = beside .mirrors in
+      line-view u b (beside .table .formed) (m .table .formed) (beside .table .sized) (m .table .sized) shows
 
   -- so as many wait
   same-waiting : waitingOf b ≡ waitingOf u
@@ -82,19 +79,19 @@ module _ (n : ℕ) (u b : Table) (beside : Beside n u b) where
     low = step-process u i taken .1
 
     high : i ≤ n
-    high = omega (arith, beside .count, step-process u i taken .2)
+    high = omega (arith, beside .table .count, step-process u i taken .2)
 
     seen : StepSeen unbounded n u i
-    seen = step-seen u i (beside .formed) (beside .sized) taken (beside .machine) (beside .count)
+    seen = step-seen u i (beside .table .formed) (beside .table .sized) taken (beside .table .machine) (beside .table .count)
 
     -- the bounded one takes it
     also-taken : stepOf b i .stop ≡ noRefusal
     also-taken = mirror-accepts n b (view u) (beside .mirrors) i low high
 
-    -- with the same mark
+    -- with the same turn: the same process, line and mark
     same-turn : turnOf b i ≡ turnOf u i
     same-turn =
-        let most : n ≤ slots = omega (arith, beside .count, table-rules u (beside .formed) .most) in
+        let most : n ≤ slots = omega (arith, beside .table .count, table-rules u (beside .table .formed) .most) in
         let mark = mirror-mark n b (view u) (beside .mirrors) i low high ∙ sym (seen .mark) in
         λ at. record { process = i; line = same-line i low (omega (arith, high)) at; mark = mark at }
 
@@ -102,10 +99,7 @@ module _ (n : ℕ) (u b : Table) (beside : Beside n u b) where
     step-beside : Beside n (stepOf u i .table) (stepOf b i .table)
     step-beside =
         record {
-          formed = step-well-formed u i (beside .formed) (beside .sized);
-          sized = step-sized u i (beside .sized);
-          machine = step-machine u i .0 ∙ beside .machine;
-          count = step-machine u i .1 ∙ beside .count;
+          table = step-table-for u i (beside .table);
           mirrors = subst (Mirrors n (stepOf b i .table)) (sym (seen .table)) (mirror-step n b (view u) (beside .mirrors) i low high);
         }
 
@@ -115,7 +109,7 @@ record Courses (n : ℕ) (u b : Course) : Type 0 where
   turns : b .turns ≡ u .turns
   tables : Beside n (u .table) (b .table)
 
--- until the unbounded machine refuses a byte
+-- over the bytes until the unbounded machine refuses one
 courses-until : (n : ℕ) (u b : Table) (schedule : List ℕ) → Beside n u b
     → Courses n (courseOf u schedule) (courseOf b (takenIn (courseOf u schedule) schedule))
 unfolding courseOf
@@ -131,7 +125,7 @@ courses-until n u b (i ∷ later) beside =
     (record { stop = rest .stop; turns = λ at. same-turn n u b beside i taken at ∷ rest .turns at; tables = rest .tables }))
     (λ _. record { stop = refl; turns = refl; tables = beside })
 
--- where it refuses none
+-- and over all bytes where it refuses none
 courses : (n : ℕ) (u b : Table) (schedule : List ℕ) → Beside n u b → courseOf u schedule .stop ≡ noRefusal
     → Courses n (courseOf u schedule) (courseOf b schedule)
 courses n u b schedule beside accepted =
@@ -173,7 +167,7 @@ module _ (n : ℕ) (u b : Table) (beside : Beside n u b) (p : Piece) (stop : run
 
   also-accepted : runRefusal b (p .schedule) (p .buffer) ≡ noRefusal
   unfolding runRefusal
-  also-accepted = rw (beside .mirrors .formed) (rw (beside .formed) at accepted)
+  also-accepted = rw (beside .mirrors .table .formed) (rw (beside .table .formed) at accepted)
 
   answer : runOf u (p .schedule) (p .buffer) ≡ answerOf (courseOf u (p .schedule))
   answer = run-answer u (p .schedule) (p .buffer) accepted
@@ -198,7 +192,7 @@ module _ (n : ℕ) (u b : Table) (beside : Beside n u b) (p : Piece) (stop : run
       run-buffer b (p .schedule) (p .buffer) also-accepted
       ∙ rw (both-run .turns) (sym (run-buffer u (p .schedule) (p .buffer) accepted))
 
--- and of run after run
+-- and so run after run
 runs-meet : (n : ℕ) (u b : Table) → Beside n u b → (pieces : List Piece) → RunsMeet n u b pieces
 runs-meet n u b beside [] = tt
 runs-meet n u b beside (p ∷ later) =

@@ -1,19 +1,19 @@
--- A step of document 01 is the theory's step, seen through the view of the table; and the bounded machine refuses no process.
+-- A step of document 01 is the theory's step, seen through the view of the table; and the bounded machine refuses no step of a process.
 use Prim.Native.Nat.{ℕ, _-_, _≤_}
 use mathlib.Core.Path.{_≡_, refl, sym, ap, _∙_, subst, fun-ext}
 use mathlib.Core.Bool.{Bool, true, false, cond, not}
 use native.Mathlib.Omega.{arith}
 use borrow.Author.Tests.{eqb-true}
 use lib.Dec.{eqb}
-use Rattle.table.specs.Numbers.{slots, bounded, limitOf}
+use Rattle.table.specs.Numbers.{slots, bounded}
 use Rattle.table.specs.Refusals.{noRefusal}
 use Rattle.table.specs.Rules.{rowOf, wellFormed}
 use Rattle.table.specs.Fresh.{freshRow}
 use Rattle.table.specs.Sized.{Sized}
 use Rattle.table.specs.declared.Row.{Row}
 use Rattle.table.specs.declared.Table.{Table}
-use Rattle.table.proofs.Tests.{by-test, and-halves, within-yes}
-use Rattle.table.proofs.WellFormed.{table-rules, token-range}
+use Rattle.table.proofs.Tests.{by-test, within-yes}
+use Rattle.table.proofs.WellFormed.{table-rules}
 use Rattle.machine.specs.Step.{passes, line2, line4, line5, line6, line7, advanceOf, seenOf, putBack, takenOf, stepOf}
 use Rattle.machine.specs.declared.Seen.{Seen}
 use Rattle.machine.specs.declared.Advanced.{Advanced}
@@ -25,9 +25,10 @@ use Rattle.theory.proofs.Model.{Place, State, isChoosing, set, put, moves, step
 use Rattle.theory.proofs.Model as model
 use Rattle.demands.proofs.Views.{tokenOf, rowView, view, machineOf}
 use Rattle.demands.proofs.From1.{from1-set-view, row-from1}
+use Rattle.demands.proofs.RowFacts.{token-from-none}
 use Rattle.demands.proofs.RowViews.{choosing-view, ShowsOther, Shows, Follows, advance-view}
 
--- a state in which is put what it has is as it was, so a choice of what is put is a choice of states
+-- to put what is there changes nothing, so a choice of what is put is a choice of states
 put-same : (s : State) (i : ℕ) → put s i (s .x) (s .row i) ≡ s
 put-same s i = ap (λ (row : ℕ → model.Row). record { x = s .x; row = row }) (fun-ext each)
   where
@@ -82,7 +83,7 @@ module _ (t : Table) (i : ℕ) (w : wellFormed t ≡ true) (z : Sized t) (accept
           let rules = table-rules t w .rows j l (in-table h) in
           record {
             token = ap (λ (r : model.Row). r .token) (row-view j l h);
-            least = and-halves _ _ (token-range (limitOf (t .algorithm) (t .n)) _ _ (rules .token)) .0;
+            least = token-from-none _ _ _ (rules .token);
             choosing = ap (λ (r : model.Row). not (isChoosing (r .place))) (row-view j l h) ∙ choosing-view rules;
           }
 
@@ -109,8 +110,8 @@ module _ (t : Table) (i : ℕ) (w : wellFormed t ≡ true) (z : Sized t) (accept
   unfolding takenOf
   mark-view = ap (λ (u : Stepped). u .mark) taken ∙ followed .mark
 
-  -- The theorem: seen through the view, it is the step of the theory's machine of that algorithm, for that many processes, and its mark is 1
-  -- just where that one moves.
+  -- The theorem: seen through the view, it is the step of the theory's machine of that algorithm, for that many processes, and its mark is
+  -- 1 just where that machine moves.
   pub step-seen : {algorithm n : ℕ} → t .algorithm ≡ algorithm → t .n ≡ n → StepSeen algorithm n t i
   step-seen {algorithm} {n} same-machine same-count =
       subst (λ (k : ℕ). StepSeen algorithm k t i) same-count

@@ -9,7 +9,6 @@ use native.Mathlib.Nat.{mod-eq-of-lt, mod-self, zero-mod, add-mod-right, le-of-s
 use borrow.Author.Tests.{ltb-true, ltb-false, leb-true, eq-eqb}
 use lib.Dec.{ltb, eqb, leb·suc-suc, eqb·suc-suc}
 use lib.IntN.{ℤ, pos, negsuc, negℤ, _+ℤ_, _-ℤ_, +ℤ-assoc, +ℤ-comm}
-use lib.Signed.{leZ}
 use lib.ListN.{length, length-map}
 use Rattle.table.specs.Tests.{within, withinℤ}
 use Rattle.table.specs.Numbers.{none, unbounded, tokenLimit, limitOf, topOf, modulusOf}
@@ -17,13 +16,14 @@ use Rattle.table.proofs.Tests.{by-test, within-high}
 use Rattle.machine.specs.Tokens.{remainder, larger, nextUb, nextB, beforeUb, beforeB, nextToken, goesBefore}
 use Rattle.machine.specs.Tokens as machine
 use Rattle.theory.proofs.Counting.{largest}
-use Rattle.theory.proofs.Tokens.{Token, held, numberOf, modulus, ahead, unboundedMachine, boundedMachine}
+use Rattle.theory.proofs.Tokens.{Token, held, numberOf, number-of-held, modulus, ahead, unboundedMachine, boundedMachine}
 use Rattle.theory.proofs.Tokens.{nextUnbounded, nextBounded, beforeUnbounded, beforeBounded}
 use Rattle.theory.proofs.Tokens as theory
-use Rattle.demands.proofs.Views.{tokenOf, from1, machineOf}
-use Rattle.demands.proofs.From1.{cellsView, from1-map}
+use Rattle.demands.proofs.Views.{tokenOf, from1, cellsView, machineOf}
+use Rattle.demands.proofs.From1.{from1-map}
+use Rattle.demands.proofs.RowFacts.{FromNone}
 
--- The largest of some numbers is that of their tokens.
+-- The largest of some numbers, seen through `tokenOf`, is the largest of their tokens.
 
 larger-view : (v w : ℤ) → tokenOf (larger v w) ≡ max (tokenOf v) (tokenOf w)
 larger-view (pos a) (pos b) =
@@ -33,12 +33,13 @@ larger-view (pos a) (negsuc b) = omega arith
 larger-view (negsuc a) (pos b) = omega arith
 larger-view (negsuc a) (negsuc b) = by-test (λ (u : ℤ). tokenOf u ≡ theory.none) (ltb b a) (λ _. refl) (λ _. refl)
 
--- the largest of a list: of its first number and of the others
+-- the largest of a list is the larger of its first number and the largest of the others
 largest-first : (w : ℤ) (ws : List ℤ) (n : ℕ) → largest (cellsView (w ∷ ws)) (suc n) ≡ max (tokenOf w) (largest (cellsView ws) n)
 unfolding largest
 largest-first w ws zero = refl
 largest-first w ws (suc n) = omega (arith, largest-first w ws n)
 
+-- so the largest of a number and a list is found from the front as well as from the back
 list-largest : (v : ℤ) (ws : List ℤ) → tokenOf (machine.largest v ws) ≡ max (tokenOf v) (largest (cellsView ws) (length ws))
 unfolding machine.largest largest
 list-largest v [] = omega arith
@@ -54,11 +55,12 @@ largest-cut f n (suc many) l nothing =
     (eq-or-lt-of-le l)
 
 -- The read cells of a row of a table for n processes: none is below -1, and those above n are -1.
-pub record Cells (n : ℕ) (cells : List ℤ) : Type 0 where
+pub record CellsFor (n : ℕ) (cells : List ℤ) : Type 0 where
   pub wide : n ≤ length cells
-  pub least : (j : ℕ) → leZ none (from1 none cells j) ≡ true
+  pub least : (j : ℕ) → FromNone (from1 none cells j)
   pub above : (j : ℕ) → n < j → from1 none cells j ≡ none
 
+-- the largest of a number and the cells of n processes
 largest-view : (n : ℕ) (v : ℤ) (cells : List ℤ) → n ≤ length cells → ((j : ℕ) → n < j → from1 none cells j ≡ none)
     → tokenOf (machine.largest v cells) ≡ max (tokenOf v) (largest (cellsView cells) n)
 largest-view n v cells wide above =
@@ -67,26 +69,28 @@ largest-view n v cells wide above =
 
 -- The unbounded machine.
 
+-- one more than a number that is a token
 one-more : (z : ℤ) (t : Token) → tokenOf z ≡ t → 1 ≤ t → tokenOf (pos 1 +ℤ z) ≡ suc t
 one-more (pos a) t e some = omega arith
 one-more (negsuc a) t e some = absurd (omega arith)
 
-pub next-ub-view : (n p : ℕ) (cells : List ℤ) → 1 ≤ n → Cells n cells
+next-ub-view : (n p : ℕ) (cells : List ℤ) → 1 ≤ n → CellsFor n cells
     → tokenOf (nextUb (pos p) cells) ≡ nextUnbounded (n - 1) (held p) (cellsView cells)
 unfolding nextUb nextUnbounded
 next-ub-view n p cells some c =
     let count : suc (n - 1) ≡ n = omega arith in
     rw count (one-more (machine.largest (pos p) cells) _ (largest-view n (pos p) cells (c .wide) (c .above)) (omega arith))
 
-pub before-ub-view : (i a j b : ℕ) → beforeUb i (pos a) j (pos b) ≡ beforeUnbounded i (held a) j (held b)
+before-ub-view : (i a j b : ℕ) → beforeUb i (pos a) j (pos b) ≡ beforeUnbounded i (held a) j (held b)
 unfolding beforeUb beforeUnbounded
 before-ub-view i a j b = rw (leb·suc-suc (suc a) b, eqb·suc-suc a b)
 
--- A difference, going round: what is subtracted is taken from the modulus first.
+-- The remainder of a difference: what is subtracted is taken from the modulus first,
 
-below-zero : (a m : ℕ) → suc a ≤ m → remainder (negsuc a) m ≡ (m - suc a) % m
+-- of a number below 0,
+negative-remainder : (a m : ℕ) → suc a ≤ m → remainder (negsuc a) m ≡ (m - suc a) % m
 unfolding remainder
-below-zero a m l = ⊎-elim whole (λ less. ap (λ (k : ℕ). (m - k) % m) (mod-eq-of-lt less)) (eq-or-lt-of-le l)
+negative-remainder a m l = ⊎-elim whole (λ less. ap (λ (k : ℕ). (m - k) % m) (mod-eq-of-lt less)) (eq-or-lt-of-le l)
   where
     whole : suc a ≡ m → (m - suc a % m) % m ≡ (m - suc a) % m
     whole e =
@@ -94,6 +98,7 @@ below-zero a m l = ⊎-elim whole (λ less. ap (λ (k : ℕ). (m - k) % m) (mod-
         let nothing : m - m ≡ 0 = omega arith in
         rw (e, mod-self m, all, nothing) (mod-self m ∙ sym (zero-mod m))
 
+-- and of any difference
 difference-round : (a b m : ℕ) → b ≤ m → remainder (pos a -ℤ pos b) m ≡ (a + (m - b)) % m
 unfolding remainder
 difference-round a zero m l =
@@ -103,21 +108,18 @@ difference-round a (suc b) m l =
     by-test (λ (z : ℤ). remainder z m ≡ (a + (m - suc b)) % m) (ltb a (suc b))
     (λ e.
     let back : m - suc (suc b - suc a) ≡ a + (m - suc b) = omega (arith, ltb-true a (suc b) e) in
-    below-zero (suc b - suc a) m (omega (arith, ltb-true a (suc b) e)) ∙ rw back)
+    negative-remainder (suc b - suc a) m (omega (arith, ltb-true a (suc b) e)) ∙ rw back)
     (λ e.
     let round : a - suc b + m ≡ a + (m - suc b) = omega (arith, ltb-false a (suc b) e) in
     sym (add-mod-right (a - suc b) m) ∙ rw round)
 
--- a sum after a difference is made before it
+-- what is added after a difference may be added before it
 sum-first : (a b c : ℕ) → pos a -ℤ pos b +ℤ pos c ≡ pos (a + c) -ℤ pos b
 sum-first a b c =
     let less = negℤ (pos b) in
     +ℤ-assoc (pos a) less (pos c) ∙ ap (λ (z : ℤ). pos a +ℤ z) (+ℤ-comm less (pos c)) ∙ sym (+ℤ-assoc (pos a) (pos c) less)
 
 -- The bounded machine.
-
-number-held : (v : ℕ) → numberOf (held v) ≡ v
-number-held v = omega arith
 
 module _ (n : ℕ) (some : 1 ≤ n) where
   same-modulus : modulusOf n ≡ modulus (n - 1)
@@ -127,14 +129,14 @@ module _ (n : ℕ) (some : 1 ≤ n) where
   pub ahead-view : (a b : ℕ) → a < modulusOf n → remainder (pos b -ℤ pos a) (modulusOf n) ≡ ahead (n - 1) a b
   ahead-view a b small = difference-round b a (modulusOf n) (omega arith) ∙ ap (λ (m : ℕ). (b + (m - a)) % m) same-modulus
 
-  pub before-b-view : (i a j b : ℕ) → a < modulusOf n → beforeB n i (pos a) j (pos b) ≡ beforeBounded (n - 1) i (held a) j (held b)
+  before-b-view : (i a j b : ℕ) → a < modulusOf n → beforeB n i (pos a) j (pos b) ≡ beforeBounded (n - 1) i (held a) j (held b)
   unfolding beforeB beforeBounded
   before-b-view i a j b small =
-      rw (number-held a, number-held b) (ap (λ (d : ℕ). within 1 (n - 1) d || eqb d 0 && ltb i j) (ahead-view a b small))
+      rw (number-of-held a, number-of-held b) (ap (λ (d : ℕ). within 1 (n - 1) d || eqb d 0 && ltb i j) (ahead-view a b small))
 
   module _ (p : ℕ) (small : p < modulusOf n) where
     -- a pivot or a cell shifted
-    shifted-view : (v : ℤ) → leZ none v ≡ true → tokenOf (machine.shiftedCell n (pos p) v) ≡ theory.shifted (n - 1) p (tokenOf v)
+    shifted-view : (v : ℤ) → FromNone v → tokenOf (machine.shiftedCell n (pos p) v) ≡ theory.shifted (n - 1) p (tokenOf v)
     unfolding machine.shiftedCell machine.shifted theory.shifted
     shifted-view (pos v) least =
         ap held (difference-round (v + (n - 1)) p (modulusOf n) (omega arith)
@@ -148,7 +150,7 @@ module _ (n : ℕ) (some : 1 ≤ n) where
     unfolding machine.shiftedCell
     shifted-at cells j = from1-map none shiftedCell refl cells j
 
-    shifted-cells : (cells : List ℤ) → Cells n cells
+    shifted-cells : (cells : List ℤ) → CellsFor n cells
         → cellsView (map shiftedCell cells) ≡ (λ k. theory.shifted (n - 1) p (cellsView cells k))
     shifted-cells cells c = fun-ext (λ k. ap tokenOf (shifted-at cells k) ∙ shifted-view (from1 none cells k) (c .least k))
 
@@ -156,7 +158,7 @@ module _ (n : ℕ) (some : 1 ≤ n) where
     abbrev largestShifted : List ℤ → ℤ
     largestShifted cells = machine.largest (pos (machine.shifted n (pos p) (pos p))) (map shiftedCell cells)
 
-    largest-shifted : (cells : List ℤ) → Cells n cells
+    largest-shifted : (cells : List ℤ) → CellsFor n cells
         → tokenOf (largestShifted cells)
         ≡ max (theory.shifted (n - 1) p (held p)) (largest (λ k. theory.shifted (n - 1) p (cellsView cells k)) n)
     unfolding machine.shiftedCell
@@ -168,21 +170,21 @@ module _ (n : ℕ) (some : 1 ≤ n) where
     -- it is shifted back, and one more is the next token
     back-view : (z : ℤ) (t : Token) → tokenOf z ≡ t → 1 ≤ t
         → remainder (z +ℤ pos p -ℤ pos n +ℤ pos 2) (modulusOf n) ≡ (numberOf t + p + (n - 1) + 2) % modulus (n - 1)
-    back-view (pos a) t e held =
+    back-view (pos a) t e some =
         let sum : a + p + 2 + (modulusOf n - n) ≡ numberOf t + p + (n - 1) + 2 = omega arith in
         rw (sum-first (a + p) n 2) (difference-round (a + p + 2) n (modulusOf n) (omega arith) ∙ rw (sum, same-modulus))
-    back-view (negsuc a) t e held = absurd (omega arith)
+    back-view (negsuc a) t e some = absurd (omega arith)
 
-    pub next-b-view : (cells : List ℤ) → Cells n cells
+    next-b-view : (cells : List ℤ) → CellsFor n cells
         → tokenOf (nextB n (pos p) cells) ≡ nextBounded (n - 1) (held p) (cellsView cells)
     unfolding nextB nextBounded theory.shifted
     next-b-view cells c =
         let count : suc (n - 1) ≡ n = omega arith in
-        rw (number-held p, count) (ap held (back-view (largestShifted cells) _ (largest-shifted cells c) (omega arith)))
+        rw (number-of-held p, count) (ap held (back-view (largestShifted cells) _ (largest-shifted cells c) (omega arith)))
 
 -- Either machine, by the algorithm. The pivot and the token of the process itself are 0 to T, and the other token is held.
 module _ (algorithm n : ℕ) (some : 1 ≤ n) where
-  pub next-token-view : (pivot : ℤ) (cells : List ℤ) → withinℤ (pos 0) (topOf algorithm n) pivot ≡ true → Cells n cells
+  pub next-token-view : (pivot : ℤ) (cells : List ℤ) → withinℤ (pos 0) (topOf algorithm n) pivot ≡ true → CellsFor n cells
       → tokenOf (nextToken algorithm n pivot cells) ≡ machineOf algorithm (n - 1) .next (tokenOf pivot) (cellsView cells)
   unfolding nextToken limitOf
   next-token-view (pos p) cells range c = by-machine (eqb algorithm unbounded) range

@@ -1,4 +1,4 @@
--- The view of a table of document 01 as a state of the theory: the one place where sixteen rows of sixteen cells become rows and cells of every
+-- The view of a table of document 01 as a state of the theory. Here alone the sixteen rows of sixteen cells become rows and cells for every
 -- number.
 use Prim.Native.Nat.{ℕ, zero, suc}
 use mathlib.Core.Bool.{cond}
@@ -20,7 +20,7 @@ abbrev pub tokenOf : ℤ → Token
 tokenOf (pos v) = held v
 tokenOf (negsuc _) = theory.none
 
--- a line, with the index where the line has one; no well-formed row stands at another than 1 to 10
+-- a line, with the index where the line has one; no well-formed row stands at a line other than 1 to 10
 abbrev pub placeOf : ℕ → ℕ → Place
 placeOf line index =
     cond (eqb line 2) (at2 index)
@@ -34,17 +34,21 @@ placeOf line index =
     (cond (eqb line 10) at10
     at1))))))))
 
--- an element of a list counted from 1, and d past its ends
+-- the element k of a list, counted from 1, and d where there is none
 abbrev pub from1 : {A : Type 0} → A → List A → ℕ → A
 from1 d l zero = d
 from1 d l (suc k) = getD l k d
+
+-- the read cells of a row, a row, and a table
+abbrev pub cellsView : List ℤ → ℕ → Token
+cellsView cells j = tokenOf (from1 none cells j)
 
 abbrev pub rowView : Row → model.Row
 rowView r = record {
   place = placeOf (r .line) (r .index);
   token = tokenOf (r .token);
   pivot = tokenOf (r .pivot);
-  cell = λ j. tokenOf (from1 none (r .cells) j);
+  cell = cellsView (r .cells);
 }
 
 abbrev pub view : Table → State

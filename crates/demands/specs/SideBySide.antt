@@ -60,18 +60,18 @@ pub record Piece : Type 0 where
   pub schedule : List ℕ
   pub buffer : List ℕ
 
--- Both machines run each piece, from these tables on; as long as the unbounded machine's run answers stop number 0, and so has at most
--- 60,000 bytes (refusal 6), the bounded machine's does, demand 3 is met after it, the counts are the same and so are the lent buffers.
+-- Both machines run each piece, from the tables u and b on. As long as the unbounded machine's run answers stop number 0, and so has at most
+-- 60,000 bytes (refusal 6): demand 3 is met after it, and both runs have the same counts, stop number and entry list.
 abbrev pub RunsMeet : ℕ → Table → Table → List Piece → Type 0
-RunsMeet n t s [] = Unit
-RunsMeet n t s (p ∷ later) =
-    let u = runOf t (p .schedule) (p .buffer) in
-    let b = runOf s (p .schedule) (p .buffer) in
-    u .stop ≡ noRefusal
-    → (meets n (u .table) (b .table) ≡ true)
-    × SameCounts u b
-    × (bufferOf s (p .schedule) (p .buffer) ≡ bufferOf t (p .schedule) (p .buffer))
-    × RunsMeet n (u .table) (b .table) later
+RunsMeet n u b [] = Unit
+RunsMeet n u b (p ∷ later) =
+    let ranU = runOf u (p .schedule) (p .buffer) in
+    let ranB = runOf b (p .schedule) (p .buffer) in
+    ranU .stop ≡ noRefusal
+    → (meets n (ranU .table) (ranB .table) ≡ true)
+    × SameCounts ranU ranB
+    × (bufferOf b (p .schedule) (p .buffer) ≡ bufferOf u (p .schedule) (p .buffer))
+    × RunsMeet n (ranU .table) (ranB .table) later
 
 -- Demand 3 of schedules of any length, cut into runs.
 abbrev pub InRuns : Type 0

@@ -10,7 +10,7 @@ use Rattle.table.proofs.Tests.{of-choice}
 use Rattle.theory.proofs.Counting.{Process, Least, least-of}
 use Rattle.theory.proofs.Tokens.{Token, none, held, IsHeld, numberOf, modulus, reduced, ahead}
 use Rattle.theory.proofs.Tokens.{nextUnbounded, nextBounded, unboundedMachine, boundedMachine}
-use Rattle.theory.proofs.Remainders.{Near, lemma-1, lemma-2, ahead-is}
+use Rattle.theory.proofs.Remainders.{Near, lemma-1, lemma-2, ahead-if-above}
 use Rattle.theory.proofs.Model.{Place, at1, at2, at3, at4, at5, at6, at7, at8, at9, at10, Row, State, fresh}
 use Rattle.theory.proofs.Model.{set, put, afterCell, passes, movesAt, moves, rowAfter, xAfter, moved, step}
 use Rattle.theory.proofs.Invariant.{Invariant, own-at}
@@ -32,7 +32,7 @@ remainders others s = record { x = reduced others (s .x); row = λ i. rowReduced
 pub fresh-on-remainders : (others : ℕ) → remainders others fresh ≡ fresh
 fresh-on-remainders others = ap (λ (v : ℕ). record { x = held v; row = fresh .row }) (zero-mod (modulus others))
 
--- What Theorems 2 and 3 of source 002 say to process i.
+-- What Theorems 2 and 3 of source 002 say to process i, which is all that the bounded machine needs.
 pub record Clustered (others : ℕ) (s : State) (i : ℕ) : Type 0 where
   -- at line 4 it has a pivot, and the tokens that it read at line 2 cluster around the pivot
   pub has-pivot : s .row i .place ≡ at4 → IsHeld (s .row i .pivot)
@@ -43,14 +43,14 @@ pub record Clustered (others : ℕ) (s : State) (i : ℕ) : Type 0 where
   pub around-token : (j : ℕ) → s .row i .place ≡ at7 j
       → (v w : ℕ) → s .row i .token ≡ held v → s .row j .token ≡ held w → Near others v w
 
--- the next token, by Lemma 1
+-- the next token on remainders is the remainder of the next token, by Lemma 1
 next-on-remainders : (others : ℕ) (pivot : Token) (cell : ℕ → Token) → IsHeld pivot
     → ((p k v : ℕ) → Process (suc others) k → pivot ≡ held p → cell k ≡ held v → Near others p v)
     → nextBounded others (reduced others pivot) (λ k. reduced others (cell k)) ≡ reduced others (nextUnbounded others pivot cell)
 next-on-remainders others zero cell some near = absurd (omega arith)
 next-on-remainders others (suc p) cell some near = lemma-1 others p cell (λ k v q. near p k v q refl)
 
--- whether a process passes another, by Lemma 2
+-- a process passes another on remainders just where it passes it, by Lemma 2
 passes-on-remainders : (others i : ℕ) (t : Token) (j : ℕ) (u : Token) → IsHeld t
     → ((v w : ℕ) → t ≡ held v → u ≡ held w → Near others v w)
     → passes (boundedMachine others) i (reduced others t) j (reduced others u) ≡ passes (unboundedMachine others) i t j u
@@ -60,11 +60,11 @@ passes-on-remainders others i (suc v) j (suc w) some near =
     rw (ne-eqb (held (w % modulus others)) none (omega arith), ne-eqb (held w) none (omega arith))
     (lemma-2 others i v j w (near v w refl refl))
 
--- a function of the values, where one value is set
+-- g of the values where one is set: the values of g, where one is set
 of-set : {A B : Type 0} (g : A → B) (f : ℕ → A) (i : ℕ) (a : A) → set (λ k. g (f k)) i (g a) ≡ (λ k. g (set f i a k))
 of-set g f i a = λ at k. sym (of-choice g (eqb k i) a (f k)) at
 
--- a row put, and X
+-- a row and X put on remainders
 put-on-remainders : (others : ℕ) (s : State) (i : ℕ) (x : Token) (r : Row)
     → put (remainders others s) i (reduced others x) (rowReduced others r) ≡ remainders others (put s i x r)
 put-on-remainders others s i x r = λ at. record { x = reduced others x; row = of-set (rowReduced others) (s .row) i r at }
@@ -135,17 +135,17 @@ module _ (others : ℕ) (s : State) (i : ℕ) (clustered : Clustered others s i)
       (λ at. cond (moves-on-remainders at) (moved-on-remainders at) (remainders others s))
       ∙ sym (of-choice (remainders others) (moves (unboundedMachine others) s i) (moved others (unboundedMachine others) s i) s)
 
--- The unbounded machine's invariant says to each process what it needs.
+-- The invariant gives each process that.
 pub clustered : (others : ℕ) (s : State) → Invariant others s → (i : ℕ) → Process (suc others) i → Clustered others s i
 clustered others s inv i process =
     record {
-      has-pivot = λ e. own-at others s inv i process at4 e .some;
+      has-pivot = λ e. own-at others s inv i process at4 e .has-pivot;
       around-pivot = λ e p k v _. theorem-2 others s inv i k p v process e;
-      has-token = λ j e. omega (arith, inv .begun, own-at others s inv i process (at7 j) e .token .holds);
+      has-token = λ j e. omega (arith, inv .begun, own-at others s inv i process (at7 j) e .token .at-least-x);
       around-token = λ j e v w. theorem-3 others s inv i j v w process (own-at others s inv i process (at7 j) e .index);
     }
 
--- Held tokens lie together: from one of them on, none is more than n - 1 ahead, going round modulo 2n - 1.
+-- The held tokens lie together: some process holds the first of them, and none is more than n - 1 ahead of that, going round modulo 2n - 1.
 pub record OneArc (others : ℕ) (s : State) : Type 0 where
   pub from : ℕ
   pub process : Process (suc others) from
@@ -153,7 +153,7 @@ pub record OneArc (others : ℕ) (s : State) : Type 0 where
   pub holds : s .row from .token ≡ held number
   pub all : (j w : ℕ) → Process (suc others) j → s .row j .token ≡ held w → ahead others number w ≤ others
 
--- the number of a held token, before the remainder was taken
+-- t is a held token whose remainder is v
 record HeldBefore (others : ℕ) (t : Token) (v : ℕ) : Type 0 where
   number : ℕ
   holds : t ≡ held number
@@ -163,7 +163,7 @@ held-before : (others : ℕ) (t : Token) (v : ℕ) → reduced others t ≡ held
 held-before others zero v e = absurd (omega (arith, e))
 held-before others (suc w) v e = record { number = w; holds = refl; is = omega (arith, e) }
 
--- From the least of the tokens on: no other is more than n - 1 above it (Theorem 3).
+-- where a token is held, the held tokens lie together: the first is the least, since none is more than n - 1 above it (Theorem 3)
 pub one-arc : (others : ℕ) (s : State) → Invariant others s → (i v : ℕ) → Process (suc others) i
     → remainders others s .row i .token ≡ held v → OneArc others (remainders others s)
 one-arc others s inv i v process holds =
@@ -178,7 +178,8 @@ one-arc others s inv i v process holds =
       holds = ap (reduced others) is-first;
       all = λ j w q e.
           let b : HeldBefore others (s .row j .token) w = held-before others (s .row j .token) w e in
-          let near : Near others first (b .number) = theorem-3 others s inv (least .who) j first (b .number) (least .process) q is-first (b .holds) in
+          let near : Near others first (b .number) =
+          theorem-3 others s inv (least .who) j first (b .number) (least .process) q is-first (b .holds) in
           let above : first ≤ b .number = omega (arith, is-first, b .holds, least .least j q (omega (arith, b .holds))) in
-          rw (sym (b .is), ahead-is others first (b .number) above (near .below)) (omega (arith, near .below));
+          rw (sym (b .is), ahead-if-above others first (b .number) above (near .high)) (omega (arith, near .high));
     }

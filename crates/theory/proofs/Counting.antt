@@ -1,10 +1,10 @@
--- Counting over the processes 1 to n: sums, the largest, and the pigeonhole.
+-- Counting over the processes 1 to n: sums, the largest, the pigeonhole, and the least.
 use Prim.Native.Nat.{ℕ, zero, suc, _+_, _-_, _≤_, _<_, max}
 use mathlib.Core.Path.{_≡_, refl}
 use mathlib.Core.Bool.{cond}
 use native.Mathlib.Omega.{arith}
-use borrow.Author.Tests.{leb-true, leb-false, lt-ltb, le-ltb}
-use lib.Dec.{leb, ltb}
+use borrow.Author.Tests.{leb-true, leb-false, lt-ltb, le-ltb, eqb-true, eqb-false}
+use lib.Dec.{leb, ltb, eqb}
 use Rattle.table.proofs.Tests.{by-test, up-to-next}
 
 -- i is one of the processes 1 to n
@@ -12,19 +12,28 @@ pub record Process (n i : ℕ) : Type 0 where
   pub low : 1 ≤ i
   pub high : i ≤ n
 
+-- of n + 1 processes: one of the first n, and the last
 pub earlier : {n i : ℕ} → Process n i → Process (suc n) i
 earlier p = record { low = p .low; high = omega (arith, p .high) }
 
 pub last : (n : ℕ) → Process (suc n) (suc n)
 last n = record { low = omega arith; high = omega arith }
 
--- what holds of each process of n, and of one more, holds of each of n + 1
-pub and-last : (n : ℕ) (P : ℕ → Type 0) → ((i : ℕ) → Process n i → P i) → P (suc n) → (i : ℕ) → Process (suc n) i → P i
+-- what holds of each of the first n, and of the last, holds of each
+and-last : (n : ℕ) (P : ℕ → Type 0) → ((i : ℕ) → Process n i → P i) → P (suc n) → (i : ℕ) → Process (suc n) i → P i
 and-last n P before one i p = up-to-next P n (λ k low high. before k (record { low = low; high = high })) one i (p .low) (p .high)
 
 -- a number is at most another, or above it
 pub by-order : {P : Type 0} (a b : ℕ) → (a ≤ b → P) → (b < a → P) → P
 by-order {P} a b f g = by-test (λ (_ : ℕ). P) (leb a b) {x = 0} {y = 0} (λ t. f (leb-true a b t)) (λ t. g (leb-false a b t))
+
+-- a number is another, or it is not
+pub by-equality : {P : Type 0} (a b : ℕ) → (a ≡ b → P) → (¬ (a ≡ b) → P) → P
+by-equality {P} a b f g = by-test (λ (_ : ℕ). P) (eqb a b) {x = 0} {y = 0} (λ t. f (eqb-true a b t)) (λ t. g (eqb-false a b t))
+
+-- a number is below another, or equal to it, or above it
+pub by-comparison : {P : Type 0} (a b : ℕ) → (a < b → P) → (a ≡ b → P) → (b < a → P) → P
+by-comparison a b less equal more = by-order a b (λ l. by-order b a (λ m. equal (omega arith)) less) more
 
 -- 1 where a is below b, else 0
 unfoldable pub below : ℕ → ℕ → ℕ
@@ -49,6 +58,7 @@ below-either a b apart =
     (λ l. omega (arith, below-one a b (omega arith), below-zero b a l))
     (λ l. omega (arith, below-zero a b (omega arith), below-one b a l))
 
+-- where a is below b only if a′ is below b′, it counts for no more
 pub below-mono : (a b a′ b′ : ℕ) → (a < b → a′ < b′) → below a b ≤ below a′ b′
 below-mono a b a′ b′ f =
     by-order b a
@@ -60,12 +70,13 @@ unfoldable pub sum : (ℕ → ℕ) → ℕ → ℕ
 sum f zero = 0
 sum f (suc n) = f (suc n) + sum f n
 
+-- no more in each place is no more in all
 pub sum-mono : (f g : ℕ → ℕ) (n : ℕ) → ((i : ℕ) → Process n i → f i ≤ g i) → sum f n ≤ sum g n
 unfolding sum
 sum-mono f g zero le = omega arith
 sum-mono f g (suc n) le = omega (arith, le (suc n) (last n), sum-mono f g n (λ i p. le i (earlier p)))
 
--- less in one place is less in all
+-- and less in one place besides is less in all
 pub sum-less : (f g : ℕ → ℕ) (n e : ℕ) → Process n e → f e < g e → ((i : ℕ) → Process n i → f i ≤ g i) → sum f n < sum g n
 unfolding sum
 sum-less f g zero e p less le = absurd (omega (arith, p .low, p .high))
@@ -81,7 +92,7 @@ sum-ones zero = refl
 sum-ones (suc n) = omega (arith, sum-ones n)
 
 -- where each counts for at most 1, all count for at most n; and for less than n where one counts for nothing
-pub sum-most : (f : ℕ → ℕ) (n : ℕ) → ((i : ℕ) → f i ≤ 1) → sum f n ≤ n
+sum-most : (f : ℕ → ℕ) (n : ℕ) → ((i : ℕ) → f i ≤ 1) → sum f n ≤ n
 sum-most f n le = omega (arith, sum-ones n, sum-mono f (λ _. 1) n (λ i _. le i))
 
 pub sum-but-one : (f : ℕ → ℕ) (n e : ℕ) → Process n e → f e ≡ 0 → ((i : ℕ) → f i ≤ 1) → sum f n < n
@@ -92,6 +103,7 @@ unfoldable pub largest : (ℕ → ℕ) → ℕ → ℕ
 largest f zero = 0
 largest f (suc n) = max (f (suc n)) (largest f n)
 
+-- none is above it
 pub at-most-largest : (f : ℕ → ℕ) (n i : ℕ) → Process n i → f i ≤ largest f n
 unfolding largest
 at-most-largest f zero i p = absurd (omega (arith, p .low, p .high))
@@ -104,6 +116,7 @@ pub record Reaches (f : ℕ → ℕ) (n a : ℕ) : Type 0 where
   pub process : Process n who
   pub reaches : a ≤ f who
 
+-- and every number from 1 up to it is reached
 pub largest-reached : (f : ℕ → ℕ) (n a : ℕ) → 1 ≤ a → a ≤ largest f n → Reaches f n a
 unfolding largest
 largest-reached f zero a some le = absurd (omega arith)
@@ -143,37 +156,34 @@ above-by f n low (suc d) had = omega (arith, above-by f n low d (λ a l m. had a
         ))
         (λ i _. below-mono (low + suc d) (f i) (low + d) (f i) (λ l. omega arith))
 
+-- every number above low up to high is had
 module _ (f : ℕ → ℕ) (n low high : ℕ) (had : (a : ℕ) → low < a → a ≤ high → Has f n a) where
-  -- every number above low up to high is had, so there are at most n of them
+  -- so as many processes are above low
+  as-many-above : high ≤ low + sum (λ i. below low (f i)) n
+  as-many-above =
+      by-order low high (λ l. omega (arith, above-by f n low (high - low) (λ a p q. had a p (omega arith)))) (λ l. omega arith)
+
+  -- there are at most n such numbers
   pub pigeonhole : high ≤ low + n
-  pigeonhole =
-      by-order low high
-      (λ l. omega (
-        arith,
-        above-by f n low (high - low) (λ a p q. had a p (omega arith)),
-        sum-most (λ i. below low (f i)) n (λ i. below-most low (f i)),
-      ))
-      (λ l. omega arith)
+  pigeonhole = omega (arith, as-many-above, sum-most (λ i. below low (f i)) n (λ i. below-most low (f i)))
 
   -- and fewer where some process has none of them
   pub pigeonhole-but-one : (e : ℕ) → Process n e → f e ≤ low → high < low + n
   pigeonhole-but-one e p out =
-      by-order low high
-      (λ l. omega (
+      omega (
         arith,
-        above-by f n low (high - low) (λ a p q. had a p (omega arith)),
+        as-many-above,
         sum-but-one (λ i. below low (f i)) n e p (below-zero low (f e) out) (λ i. below-most low (f i)),
-      ))
-      (λ l. omega (arith, p .low, p .high))
+      )
 
--- among the processes that have something, one has the least
+-- The least. Among the processes whose value is not 0, `who` has the least:
 pub record Least (f : ℕ → ℕ) (n : ℕ) : Type 0 where
   pub who : ℕ
   pub process : Process n who
   pub some : 1 ≤ f who
   pub least : (j : ℕ) → Process n j → 1 ≤ f j → f who ≤ f j
 
--- how deep a lies below top + 1: what is less is deeper, and nothing has no depth
+-- how far a lies below top + 1, and 0 where a is 0: so of the values that are not 0 the least lies deepest
 abbrev depth : ℕ → ℕ → ℕ
 depth top zero = 0
 depth top (suc a) = top - a
@@ -186,7 +196,7 @@ some-of-depth : (top a : ℕ) → 1 ≤ depth top a → 1 ≤ a
 some-of-depth top zero deep = deep
 some-of-depth top (suc a) deep = omega arith
 
--- it is the one that lies deepest below one that has something
+-- where some process has a value that is not 0, one has the least: the one that lies deepest below that value + 1
 pub least-of : (f : ℕ → ℕ) (n i : ℕ) → Process n i → 1 ≤ f i → Least f n
 least-of f n i p some =
     let deep : ℕ → ℕ = λ k. depth (f i) (f k) in

@@ -9,59 +9,41 @@ use Rattle.theory.proofs.Tokens.{Token, none, IsHeld}
 use Rattle.theory.proofs.Remainders.{Near}
 use Rattle.theory.proofs.Model.{Place, at1, at2, at3, at4, at5, at6, at7, at8, at9, at10, Row, State, fresh, isChoosing}
 
--- A place as numbers, so that what two processes know of each other is linear. All of the processes are those below `suc (suc others)`.
+-- How far a process has come with the others, by its place: four numbers, so that what two processes know of each other is linear.
+pub record Progress : Type 0 where
+  -- it has read the cell of each process below this,
+  pub read : ℕ
+  -- has seen each below this not choosing, at line 6,
+  pub cleared : ℕ
+  -- has passed each below this, at line 7,
+  pub passed : ℕ
+  -- and, with line 8 still to do, has seen each below this not choosing
+  pub due : ℕ
 
--- those below it have their cell read
+-- `suc (suc others)` is n + 1: each process is below it
+abbrev progress : ℕ → Place → Progress
+progress others at1 = record { read = 0; cleared = 0; passed = 0; due = 0 }
+progress others (at2 j) = record { read = j; cleared = 0; passed = 0; due = 0 }
+progress others at3 = record { read = suc (suc others); cleared = 0; passed = 0; due = 0 }
+progress others at4 = record { read = suc (suc others); cleared = 0; passed = 0; due = 0 }
+progress others at5 = record { read = 0; cleared = 0; passed = 0; due = 0 }
+progress others (at6 j) = record { read = 0; cleared = j; passed = j; due = j }
+progress others (at7 j) = record { read = 0; cleared = suc j; passed = j; due = suc j }
+progress others at8 = record { read = 0; cleared = suc (suc others); passed = suc (suc others); due = suc (suc others) }
+progress others at9 = record { read = 0; cleared = suc (suc others); passed = suc (suc others); due = 0 }
+progress others at10 = record { read = 0; cleared = suc (suc others); passed = suc (suc others); due = 0 }
+
 abbrev pub readBelow : ℕ → Place → ℕ
-readBelow others at1 = 0
-readBelow others (at2 j) = j
-readBelow others at3 = suc (suc others)
-readBelow others at4 = suc (suc others)
-readBelow others at5 = 0
-readBelow others (at6 j) = 0
-readBelow others (at7 j) = 0
-readBelow others at8 = 0
-readBelow others at9 = 0
-readBelow others at10 = 0
+readBelow others place = progress others place .read
 
--- those below it were seen not to choose, at line 6
 abbrev pub clearedBelow : ℕ → Place → ℕ
-clearedBelow others at1 = 0
-clearedBelow others (at2 j) = 0
-clearedBelow others at3 = 0
-clearedBelow others at4 = 0
-clearedBelow others at5 = 0
-clearedBelow others (at6 j) = j
-clearedBelow others (at7 j) = suc j
-clearedBelow others at8 = suc (suc others)
-clearedBelow others at9 = suc (suc others)
-clearedBelow others at10 = suc (suc others)
+clearedBelow others place = progress others place .cleared
 
--- those below it were passed, at line 7
 abbrev pub passedBelow : ℕ → Place → ℕ
-passedBelow others at1 = 0
-passedBelow others (at2 j) = 0
-passedBelow others at3 = 0
-passedBelow others at4 = 0
-passedBelow others at5 = 0
-passedBelow others (at6 j) = j
-passedBelow others (at7 j) = j
-passedBelow others at8 = suc (suc others)
-passedBelow others at9 = suc (suc others)
-passedBelow others at10 = suc (suc others)
+passedBelow others place = progress others place .passed
 
--- those below it were seen not to choose, and line 8 is still to be done
 abbrev pub dueBelow : ℕ → Place → ℕ
-dueBelow others at1 = 0
-dueBelow others (at2 j) = 0
-dueBelow others at3 = 0
-dueBelow others at4 = 0
-dueBelow others at5 = 0
-dueBelow others (at6 j) = j
-dueBelow others (at7 j) = suc j
-dueBelow others at8 = suc (suc others)
-dueBelow others at9 = 0
-dueBelow others at10 = 0
+dueBelow others place = progress others place .due
 
 -- What process i, which holds t, knows of process j, which holds u and has v in its cell of i. i saw those below `cleared` not choosing and
 -- passed those below `passed`; j has read the cells below `read`.
@@ -69,7 +51,7 @@ pub record Knows (i cleared passed t j read u v : ℕ) : Type 0 where
   -- j was not choosing when i looked, so if it has read its cell of i since then, it has seen i's token there
   pub seen : j < cleared → i < read → v ≡ t
   -- i passed j, so it goes before j: its token is below j's, or they are equal and i < j
-  pub first : j < passed → IsHeld u → t < u + below i j
+  pub goes-before : j < passed → IsHeld u → t < u + below i j
 
 abbrev pub KnowsOf : ℕ → ℕ → Row → ℕ → Row → Type 0
 KnowsOf others i a j b =
@@ -83,32 +65,34 @@ dueOver others row j = sum (λ k. below j (dueBelow others (row k .place))) (suc
 
 -- What a process is sure of by its line. X is x; its token is t, and its pivot is p.
 
--- at line 1: it holds none, and no cell is read
+-- at line 1: it holds no token, and has read no cell
 pub record Idle (t : Token) (cell : ℕ → Token) : Type 0 where
-  pub holds : t ≡ none
-  pub clear : (k : ℕ) → cell k ≡ none
+  pub no-token : t ≡ none
+  pub nothing-read : (k : ℕ) → cell k ≡ none
 
--- at lines 2 and 3: however many of those that are due still do line 8, X will be at most n - 1 above each cell
+-- at lines 2 and 3: no cell is left far behind by X; even when all those that are due have done line 8, X is at most n - 1 above it
 pub record Reads (others x due : ℕ) (t : Token) (cell : ℕ → Token) : Type 0 where
-  pub holds : t ≡ none
-  pub near : (k : ℕ) → IsHeld (cell k) → x + due ≤ cell k + others
+  pub no-token : t ≡ none
+  pub not-far-behind : (k : ℕ) → IsHeld (cell k) → x + due ≤ cell k + others
 
+-- at line 2, with its index
 pub record ReadsCell (others x due j : ℕ) (t : Token) (cell : ℕ → Token) : Type 0 where
   pub index : Process (suc others) j
   pub reads : Reads others x due t cell
 
--- at line 4: X may have passed the pivot, and not the largest of the pivot and the cells; the cells cluster around the pivot
+-- at line 4: X may have risen since it was read as the pivot, but not above the largest of the pivot and the cells; and the cells cluster
+-- around the pivot
 pub record Chooses (others x : ℕ) (t p : Token) (cell : ℕ → Token) : Type 0 where
-  pub holds : t ≡ none
-  pub some : IsHeld p
-  pub behind : p ≤ x
-  pub reached : x ≤ max p (largest cell (suc others))
-  pub near : (k : ℕ) → IsHeld (cell k) → Near others p (cell k)
+  pub no-token : t ≡ none
+  pub has-pivot : IsHeld p
+  pub pivot-behind-x : p ≤ x
+  pub x-not-beyond : x ≤ max p (largest cell (suc others))
+  pub around-pivot : (k : ℕ) → IsHeld (cell k) → Near others p (cell k)
 
 -- at lines 5 to 8: its token is at least X
 pub record Holds (x : ℕ) (t : Token) (cell : ℕ → Token) : Type 0 where
-  pub holds : x ≤ t
-  pub clear : (k : ℕ) → cell k ≡ none
+  pub at-least-x : x ≤ t
+  pub nothing-read : (k : ℕ) → cell k ≡ none
 
 -- at lines 6 and 7, with its index
 pub record Waits (others i x j : ℕ) (t : Token) (cell : ℕ → Token) : Type 0 where
@@ -118,8 +102,8 @@ pub record Waits (others i x j : ℕ) (t : Token) (cell : ℕ → Token) : Type 
 
 -- at lines 9 and 10: its token is X
 pub record Inside (x : ℕ) (t : Token) (cell : ℕ → Token) : Type 0 where
-  pub holds : t ≡ x
-  pub clear : (k : ℕ) → cell k ≡ none
+  pub is-x : t ≡ x
+  pub nothing-read : (k : ℕ) → cell k ≡ none
 
 abbrev pub Own : (others i x due : ℕ) (t p : Token) (cell : ℕ → Token) → Place → Type 0
 Own others i x due t p cell at1 = Idle t cell
@@ -136,14 +120,19 @@ Own others i x due t p cell at10 = Inside x t cell
 abbrev pub OwnOf : ℕ → ℕ → ℕ → ℕ → Row → Type 0
 OwnOf others i x due r = Own others i x due (r .token) (r .pivot) (r .cell) (r .place)
 
--- every token above X up to v is held by some process
+-- no gap: every token above X up to v is held by some process
 abbrev pub NoGap : ℕ → ℕ → (ℕ → Row) → Token → Type 0
 NoGap others x row v = (a : ℕ) → x < a → a ≤ v → Has (λ k. row k .token) (suc others) a
 
+-- The clauses.
 pub record Invariant (others : ℕ) (s : State) : Type 0 where
+  -- X is a token, from the beginning
   pub begun : IsHeld (s .x)
+  -- each process is sure of what its line says: its token is at least X, or is X; its cells cluster around its pivot
   pub own : (i : ℕ) → Process (suc others) i → OwnOf others i (s .x) (dueOver others (s .row) i) (s .row i)
+  -- each knows of each other that it has seen its token, or comes after it
   pub knows : (i j : ℕ) → Process (suc others) i → Process (suc others) j → ¬ (i ≡ j) → KnowsOf others i (s .row i) j (s .row j)
+  -- there is no gap from X up to a token, nor up to a read cell
   pub no-gap-to-token : (i : ℕ) → Process (suc others) i → NoGap others (s .x) (s .row) (s .row i .token)
   pub no-gap-to-cell : (i k : ℕ) → Process (suc others) i → NoGap others (s .x) (s .row) (s .row i .cell k)
 
@@ -153,20 +142,28 @@ pub own-at : (others : ℕ) (s : State) → Invariant others s → (i : ℕ) →
 own-at others s inv i process p e =
     subst (Own others i (s .x) (dueOver others (s .row) i) (s .row i .token) (s .row i .pivot) (s .row i .cell)) e (inv .own i process)
 
--- a process that holds a token holds one that is at least X
-pub held-from-x : (others i x due : ℕ) (t p : Token) (cell : ℕ → Token) (place : Place) → Own others i x due t p cell place → IsHeld t → x ≤ t
-held-from-x others i x due t p cell at1 o l = absurd (omega (arith, o .holds))
-held-from-x others i x due t p cell (at2 j) o l = absurd (omega (arith, o .reads .holds))
-held-from-x others i x due t p cell at3 o l = absurd (omega (arith, o .holds))
-held-from-x others i x due t p cell at4 o l = absurd (omega (arith, o .holds))
-held-from-x others i x due t p cell at5 o l = o .holds
-held-from-x others i x due t p cell (at6 j) o l = o .token .holds
-held-from-x others i x due t p cell (at7 j) o l = o .token .holds
-held-from-x others i x due t p cell at8 o l = o .holds
-held-from-x others i x due t p cell at9 o l = omega (arith, o .holds)
-held-from-x others i x due t p cell at10 o l = omega (arith, o .holds)
+-- a token that is held is at least X: at each place
+own-at-least-x : (others i x due : ℕ) (t p : Token) (cell : ℕ → Token) (place : Place) → Own others i x due t p cell place → IsHeld t
+    → x ≤ t
+own-at-least-x others i x due t p cell at1 o l = absurd (omega (arith, o .no-token))
+own-at-least-x others i x due t p cell (at2 j) o l = absurd (omega (arith, o .reads .no-token))
+own-at-least-x others i x due t p cell at3 o l = absurd (omega (arith, o .no-token))
+own-at-least-x others i x due t p cell at4 o l = absurd (omega (arith, o .no-token))
+own-at-least-x others i x due t p cell at5 o l = o .at-least-x
+own-at-least-x others i x due t p cell (at6 j) o l = o .token .at-least-x
+own-at-least-x others i x due t p cell (at7 j) o l = o .token .at-least-x
+own-at-least-x others i x due t p cell at8 o l = o .at-least-x
+own-at-least-x others i x due t p cell at9 o l = omega (arith, o .is-x)
+own-at-least-x others i x due t p cell at10 o l = omega (arith, o .is-x)
 
--- one that is passed was seen not to choose
+-- and so of every process
+pub held-at-least-x : (others : ℕ) (s : State) → Invariant others s → (i : ℕ) → Process (suc others) i → IsHeld (s .row i .token)
+    → s .x ≤ s .row i .token
+held-at-least-x others s inv i process =
+    own-at-least-x others i (s .x) (dueOver others (s .row) i) (s .row i .token) (s .row i .pivot) (s .row i .cell) (s .row i .place)
+    (inv .own i process)
+
+-- a process that was passed was seen not choosing
 pub passed-cleared : (others : ℕ) (place : Place) → passedBelow others place ≤ clearedBelow others place
 passed-cleared others at1 = omega arith
 passed-cleared others (at2 j) = omega arith
@@ -179,25 +176,25 @@ passed-cleared others at8 = omega arith
 passed-cleared others at9 = omega arith
 passed-cleared others at10 = omega arith
 
--- one that does not choose has no cell read
-pub not-choosing : (others : ℕ) (place : Place) → isChoosing place ≡ false → readBelow others place ≡ 0
-not-choosing others at1 e = refl
-not-choosing others (at2 j) e = absurd (true≢false e)
-not-choosing others at3 e = absurd (true≢false e)
-not-choosing others at4 e = absurd (true≢false e)
-not-choosing others at5 e = refl
-not-choosing others (at6 j) e = refl
-not-choosing others (at7 j) e = refl
-not-choosing others at8 e = refl
-not-choosing others at9 e = refl
-not-choosing others at10 e = refl
+-- a process that is not choosing has read no cell
+pub not-choosing-none-read : (others : ℕ) (place : Place) → isChoosing place ≡ false → readBelow others place ≡ 0
+not-choosing-none-read others at1 e = refl
+not-choosing-none-read others (at2 j) e = absurd (true≢false e)
+not-choosing-none-read others at3 e = absurd (true≢false e)
+not-choosing-none-read others at4 e = absurd (true≢false e)
+not-choosing-none-read others at5 e = refl
+not-choosing-none-read others (at6 j) e = refl
+not-choosing-none-read others (at7 j) e = refl
+not-choosing-none-read others at8 e = refl
+not-choosing-none-read others at9 e = refl
+not-choosing-none-read others at10 e = refl
 
 -- the fresh state has it
 pub fresh-invariant : (others : ℕ) → Invariant others fresh
 fresh-invariant others =
     record {
       begun = omega arith;
-      own = λ i _. record { holds = refl; clear = λ _. refl };
+      own = λ i _. record { no-token = refl; nothing-read = λ _. refl };
       knows = omega arith;
       no-gap-to-token = λ i _ a l m. absurd (omega arith);
       no-gap-to-cell = λ i k _ a l m. absurd (omega arith);

@@ -1,22 +1,23 @@
 -- Each line of the unbounded machine keeps the invariant: one law for each of lines 1 to 10, and then the step.
 use Prim.Native.Nat.{ℕ, suc, _+_, _≤_, _<_}
 use mathlib.Core.Path.{_≡_, refl, sym, ap, subst, _∙_}
-use mathlib.Core.Bool.{Bool, true, false, true≢false, _||_, _&&_}
+use mathlib.Core.Bool.{Bool, true, false, _||_, _&&_}
 use native.Mathlib.Omega.{arith}
 use borrow.Author.Tests.{eqb-true, eqb-false, leb-true, leb-false, ltb-true, not-true}
 use lib.Dec.{eqb, leb, ltb}
-use Rattle.table.proofs.Tests.{by-test}
-use Rattle.theory.proofs.Counting.{Process, by-order, below, below-one, below-zero, below-most, below-either}
+use Rattle.table.proofs.Tests.{by-test, and-halves}
+use Rattle.theory.proofs.Counting.{Process, by-order, by-equality, below, below-one, below-zero, below-most, below-either}
 use Rattle.theory.proofs.Counting.{sum-less, sum-but-one, at-most-largest, Reaches, largest-reached, Has, pigeonhole-but-one}
 use Rattle.theory.proofs.Tokens.{Token, none, IsHeld, nextUnbounded, beforeUnbounded, unboundedMachine}
 use Rattle.theory.proofs.Model.{Place, at1, at2, at3, at4, at5, at6, at7, at8, at9, at10, Row, State}
 use Rattle.theory.proofs.Model.{isChoosing, set, goes, afterCell, nextOther, goesOn, passes, movesAt, moves, rowAfter, xAfter, step}
 use Rattle.theory.proofs.Invariant.{readBelow, clearedBelow, passedBelow, dueBelow, Knows, KnowsOf, dueOver}
 use Rattle.theory.proofs.Invariant.{Idle, Reads, ReadsCell, Chooses, Holds, Waits, Inside, Own, OwnOf, NoGap, Invariant}
-use Rattle.theory.proofs.Invariant.{own-at, held-from-x, passed-cleared, not-choosing}
-use Rattle.theory.proofs.Turns.{by-number, set-each, set-same, Turn, gap-keeps, turn-keeps, due-no-more, others-sure}
+use Rattle.theory.proofs.Invariant.{own-at, held-at-least-x, passed-cleared, not-choosing-none-read}
+use Rattle.theory.proofs.Turns.{set-each, set-same, reads-still, EachOther, NoMoreDue}
+use Rattle.theory.proofs.Turns.{Turn, no-gap-kept, turn-keeps, due-no-more, others-sure}
 
--- The next number other than i: between j and it there is none but i.
+-- m is the next number above j other than i: between them there is none but i.
 record NextOther (i j m : ℕ) : Type 0 where
   above : j < m
   other : ¬ (m ≡ i)
@@ -30,12 +31,12 @@ next-other i j =
     record { above = omega arith; other = omega arith; none-between = λ k o l. omega arith })
     (λ t. record { above = omega arith; other = eqb-false (suc j) i t; none-between = λ k o l. omega arith })
 
--- The place where process i goes on after j: of the others, none above j is cleared, passed or due there that was not before; and a process that
--- may stand at line 8 may stand there.
+-- The place where process i goes on after j: of the others only those up to j are cleared, passed or due there; it has read no cell; and a
+-- process that may stand at line 8 may stand there.
 record GoesOn (others i j : ℕ) (place : Place) : Type 0 where
-  cleared : (k : ℕ) → Process (suc others) k → ¬ (k ≡ i) → k < clearedBelow others place → k ≤ j
-  passed : (k : ℕ) → Process (suc others) k → ¬ (k ≡ i) → k < passedBelow others place → k ≤ j
-  due : (k : ℕ) → Process (suc others) k → ¬ (k ≡ i) → k < dueBelow others place → k ≤ j
+  cleared : EachOther others i (λ k. k < clearedBelow others place → k ≤ j)
+  passed : EachOther others i (λ k. k < passedBelow others place → k ≤ j)
+  due : EachOther others i (λ k. k < dueBelow others place → k ≤ j)
   read : readBelow others place ≡ 0
   own : (x due : ℕ) (t p : Token) (cell : ℕ → Token) → Holds x t cell → Own others i x due t p cell place
 
@@ -65,13 +66,14 @@ goes-on others i j =
       own = λ x due token p cell h. h;
     })
 
--- The place after cell j is read.
+-- The place after cell j is read: the cells up to j are read, and no process is cleared, passed or due.
 record AfterCell (others j : ℕ) (place : Place) : Type 0 where
   read : readBelow others place ≡ suc j
   cleared : clearedBelow others place ≡ 0
   passed : passedBelow others place ≡ 0
   due : dueBelow others place ≡ 0
-  own : (i x due : ℕ) (t p : Token) (cell : ℕ → Token) → Process (suc others) j → Reads others x due t cell → Own others i x due t p cell place
+  own : (i x due : ℕ) (t p : Token) (cell : ℕ → Token) → Process (suc others) j → Reads others x due t cell
+      → Own others i x due t p cell place
 
 after-cell : (others j : ℕ) → AfterCell others j (afterCell (suc others) j)
 after-cell others j =
@@ -89,68 +91,71 @@ after-cell others j =
       own = λ i x due token p cell q r. record { index = record { low = omega arith; high = omega (arith, q .high) }; reads = r };
     })
 
--- Who passes at line 7 goes before, if the other holds a token.
+-- where one of two tests holds
 either : (a b : Bool) → (a || b) ≡ true → {P : Type 0} → (a ≡ true → P) → (b ≡ true → P) → P
 either true b e f g = f refl
 either false b e f g = g e
 
-both : (a b : Bool) → (a && b) ≡ true → {P : Type 0} → (a ≡ true → b ≡ true → P) → P
-both true b e f = f refl e
-both false b e f = absurd (true≢false (sym e))
-
-passes-first : (others i : ℕ) (t : Token) (j : ℕ) (u : Token) → passes (unboundedMachine others) i t j u ≡ true → IsHeld u → t < u + below i j
+-- who passes at line 7 goes before, if the other holds a token
+passed-goes-before : (others i : ℕ) (t : Token) (j : ℕ) (u : Token) → passes (unboundedMachine others) i t j u ≡ true → IsHeld u
+    → t < u + below i j
 unfolding beforeUnbounded
-passes-first others i t j u e some =
+passed-goes-before others i t j u e some =
     either (eqb u none) (beforeUnbounded i t j u) e
     (λ z. absurd (omega (arith, eqb-true u none z)))
     (λ b. either (ltb t u) (eqb t u && ltb i j) b
     (λ l. omega (arith, ltb-true t u l))
-    (λ q. both (eqb t u) (ltb i j) q (λ s l. omega (arith, eqb-true t u s, below-one i j (ltb-true i j l)))))
+    (λ q.
+    let (same, less) = and-halves (eqb t u) (ltb i j) q in
+    omega (arith, eqb-true t u same, below-one i j (ltb-true i j less))))
 
--- Process i does line 8 and X becomes its token, x′. Another process j stays sure of what its line says: X rises by at most one, and i is
--- due over j no more.
+-- Process i does line 8, and X becomes its token, x′. Another process j stays sure of what its line says, because X rises by at most one
+-- and i is no longer due over j.
 module _ (others x x′ due due′ i j : ℕ) (u p : Token) (cell : ℕ → Token) (begun : IsHeld x) (rises : x ≤ x′) (by-one : x′ ≤ suc x)
     (pi : Process (suc others) i) (pj : Process (suc others) j) (apart : ¬ (j ≡ i)) where
+  all-i : i < suc (suc others)
+  all-i = omega (arith, pi .high)
+
   all-j : j < suc (suc others)
   all-j = omega (arith, pj .high)
 
-  -- a token that i goes before is at least X still
+  -- a token that i goes before is still at least X
   held-entered : (IsHeld u → x′ < u + below i j) → Holds x u cell → Holds x′ u cell
-  held-entered first h = record { holds = omega (arith, first (omega (arith, h .holds)), below-most i j); clear = h .clear }
+  held-entered first h =
+      record { at-least-x = omega (arith, first (omega (arith, h .at-least-x)), below-most i j); nothing-read = h .nothing-read }
 
   waits-entered : (k : ℕ) → (IsHeld u → x′ < u + below i j) → Waits others j x k u cell → Waits others j x′ k u cell
   waits-entered k first w = record { index = w .index; other = w .other; token = held-entered first (w .token) }
 
   -- nobody else is inside: each would go before the other
   not-inside : {P : Type 0} → (IsHeld u → x′ < u + below i j) → u < x′ + below j i → Inside x u cell → P
-  not-inside first back o = absurd (omega (arith, o .holds, first (omega (arith, o .holds)), back, below-either j i apart))
+  not-inside first back o = absurd (omega (arith, o .is-x, first (omega (arith, o .is-x)), back, below-either j i apart))
 
+  -- so at each place: i has cleared and passed every other, and j goes before i if it has passed i
   own-entered : (place : Place) → (1 ≤ readBelow others place → due′ < due)
       → Knows i (suc (suc others)) (suc (suc others)) x′ j (readBelow others place) u (cell i)
       → (i < passedBelow others place → u < x′ + below j i)
       → Own others j x due u p cell place → Own others j x′ due′ u p cell place
   own-entered at1 fewer known back o = o
   own-entered (at2 k) fewer known back o =
-      let less : due′ < due = fewer (o .index .low) in
-      record { index = o .index; reads = record { holds = o .reads .holds; near = λ k l. omega (arith, o .reads .near k l) } }
+      record { index = o .index; reads = reads-still x x′ due due′ (omega (arith, fewer (o .index .low))) (o .reads) }
   own-entered at3 fewer known back o =
-      let less : due′ < due = fewer (omega arith) in
-      record { holds = o .holds; near = λ k l. omega (arith, o .near k l) }
+      reads-still x x′ due due′ (omega (arith, fewer (omega arith))) o
   own-entered at4 fewer known back o =
-      let seen : cell i ≡ x′ = known .seen (omega (arith, pj .high)) (omega (arith, pi .high)) in
+      let seen : cell i ≡ x′ = known .seen all-j all-i in
       record {
-        holds = o .holds;
-        some = o .some;
-        behind = omega (arith, o .behind);
-        reached = omega (arith, at-most-largest cell (suc others) i pi);
-        near = o .near;
+        no-token = o .no-token;
+        has-pivot = o .has-pivot;
+        pivot-behind-x = omega (arith, o .pivot-behind-x);
+        x-not-beyond = omega (arith, at-most-largest cell (suc others) i pi);
+        around-pivot = o .around-pivot;
       }
-  own-entered at5 fewer known back o = held-entered (known .first all-j) o
-  own-entered (at6 k) fewer known back o = waits-entered k (known .first all-j) o
-  own-entered (at7 k) fewer known back o = waits-entered k (known .first all-j) o
-  own-entered at8 fewer known back o = held-entered (known .first all-j) o
-  own-entered at9 fewer known back o = not-inside (known .first all-j) (back (omega (arith, pi .high))) o
-  own-entered at10 fewer known back o = not-inside (known .first all-j) (back (omega (arith, pi .high))) o
+  own-entered at5 fewer known back o = held-entered (known .goes-before all-j) o
+  own-entered (at6 k) fewer known back o = waits-entered k (known .goes-before all-j) o
+  own-entered (at7 k) fewer known back o = waits-entered k (known .goes-before all-j) o
+  own-entered at8 fewer known back o = held-entered (known .goes-before all-j) o
+  own-entered at9 fewer known back o = not-inside (known .goes-before all-j) (back all-i) o
+  own-entered at10 fewer known back o = not-inside (known .goes-before all-j) (back all-i) o
 
 -- The turn of process i.
 module _ (others : ℕ) (s : State) (inv : Invariant others s) (i : ℕ) (process : Process (suc others) i) where
@@ -159,13 +164,12 @@ module _ (others : ℕ) (s : State) (inv : Invariant others s) (i : ℕ) (proces
       → Own others i (s .x) (dueOver others (s .row) i) (s .row i .token) (s .row i .pivot) (s .row i .cell) p
   sure = own-at others s inv i process
 
-  knows-at : (p : Place) → s .row i .place ≡ p → (j : ℕ) → Process (suc others) j → ¬ (j ≡ i)
-      → KnowsOf others i (goes p (s .row i)) j (s .row j)
+  -- and what it says that process i knows of the others there, and they of it
+  knows-at : (p : Place) → s .row i .place ≡ p → EachOther others i (λ j. KnowsOf others i (goes p (s .row i)) j (s .row j))
   knows-at p e j q o =
       subst (λ (p : Place). KnowsOf others i (goes p (s .row i)) j (s .row j)) e (inv .knows i j process q (λ z. o (sym z)))
 
-  known-at : (p : Place) → s .row i .place ≡ p → (j : ℕ) → Process (suc others) j → ¬ (j ≡ i)
-      → KnowsOf others j (s .row j) i (goes p (s .row i))
+  known-at : (p : Place) → s .row i .place ≡ p → EachOther others i (λ j. KnowsOf others j (s .row j) i (goes p (s .row i)))
   known-at p e j q o = subst (λ (p : Place). KnowsOf others j (s .row j) i (goes p (s .row i))) e (inv .knows j i q process o)
 
   -- its turn at a place, as the machine has it
@@ -178,10 +182,9 @@ module _ (others : ℕ) (s : State) (inv : Invariant others s) (i : ℕ) (proces
     moved = record { place = p; token = s .row i .token; pivot = pivot; cell = s .row i .cell }
 
     keeps-token : ((due : ℕ) → OwnOf others i (s .x) due moved)
-        → ((j : ℕ) → Process (suc others) j → ¬ (j ≡ i) → 1 ≤ readBelow others (s .row j .place)
-        → j < dueBelow others p → j < dueBelow others (s .row i .place))
-        → ((j : ℕ) → Process (suc others) j → ¬ (j ≡ i) → KnowsOf others i moved j (s .row j))
-        → ((j : ℕ) → Process (suc others) j → ¬ (j ≡ i) → KnowsOf others j (s .row j) i moved)
+        → NoMoreDue others s i p
+        → EachOther others i (λ j. KnowsOf others i moved j (s .row j))
+        → EachOther others i (λ j. KnowsOf others j (s .row j) i moved)
         → Turn others s i (s .x) moved
     keeps-token own no-more-due knows known =
         record {
@@ -191,38 +194,42 @@ module _ (others : ℕ) (s : State) (inv : Invariant others s) (i : ℕ) (proces
           known = known;
           rises = omega arith;
           keeps = λ a l e. e;
-          token-gap = keep (s .row i .token) (inv .no-gap-to-token i process);
-          cell-gap = λ k. keep (s .row i .cell k) (inv .no-gap-to-cell i k process);
+          no-gap-to-token = keep (s .row i .token) (inv .no-gap-to-token i process);
+          no-gap-to-cell = λ k. keep (s .row i .cell k) (inv .no-gap-to-cell i k process);
         }
       where
         keep : (v : Token) → NoGap others (s .x) (s .row) v → NoGap others (s .x) (set (s .row) i moved) v
-        keep = gap-keeps others s i (s .x) moved (omega arith) (λ a l e. e)
+        keep = no-gap-kept others s i (s .x) moved (omega arith) (λ a l e. e)
 
+  -- Line 1 begins to choose: no cell is read yet.
   line1 : s .row i .place ≡ at1 → TurnAt at1
   line1 e =
       let o : Idle (s .row i .token) (s .row i .cell) = sure at1 e in
       keeps-token (at2 1) (s .row i .pivot)
       (λ due. record {
         index = record { low = omega arith; high = omega arith };
-        reads = record { holds = o .holds; near = λ k l. absurd (omega (arith, o .clear k)) };
+        reads = record { no-token = o .no-token; not-far-behind = λ k l. absurd (omega (arith, o .nothing-read k)) };
       })
       (omega arith)
       (omega arith)
-      (λ j q d. record { seen = λ c l. absurd (omega (arith, q .low, l)); first = known-at at1 e j q d .first })
+      (λ j q d. record { seen = λ c l. absurd (omega (arith, q .low, l)); goes-before = known-at at1 e j q d .goes-before })
 
   -- Line 2 reads cell j. If the token there is held it is at least X, and i is not due over itself, so X will not leave it behind.
   line2 : (j : ℕ) → s .row i .place ≡ at2 j → TurnAt (at2 j)
   line2 j e =
       record {
         own = after .own i (s .x) (dueOver others rows i) (s .row i .token) (s .row i .pivot) (r .cell) (o .index)
-            (record { holds = o .reads .holds; near = near });
+            (record { no-token = o .reads .no-token; not-far-behind = not-far-behind });
         others-own = others-sure others s i (s .x) r inv (λ k _ _ _ l. absurd (omega (arith, after .due)));
-        knows = λ k _ _. record { seen = λ l _. absurd (omega (arith, after .cleared)); first = λ l _. absurd (omega (arith, after .passed)) };
+        knows = λ k _ _. record {
+          seen = λ l _. absurd (omega (arith, after .cleared));
+          goes-before = λ l _. absurd (omega (arith, after .passed));
+        };
         known = known;
         rises = omega arith;
         keeps = λ a l e. e;
-        token-gap = keep (s .row i .token) (inv .no-gap-to-token i process);
-        cell-gap = set-each (λ k v. NoGap others (s .x) rows v) (s .row i .cell) j (s .row j .token)
+        no-gap-to-token = keep (s .row i .token) (inv .no-gap-to-token i process);
+        no-gap-to-cell = set-each (λ k v. NoGap others (s .x) rows v) (s .row i .cell) j (s .row j .token)
             (keep (s .row j .token) (inv .no-gap-to-token j (o .index)))
             (λ k _. keep (s .row i .cell k) (inv .no-gap-to-cell i k process));
       }
@@ -249,50 +256,50 @@ module _ (others : ℕ) (s : State) (inv : Invariant others s) (i : ℕ) (proces
           (omega (arith, after .due, ap (λ (a : Row). dueBelow others (a .place)) (set-same (s .row) i r))))
           (λ k. below-most i (dueBelow others (rows k .place)))
 
-      near : (k : ℕ) → IsHeld (r .cell k) → s .x + dueOver others rows i ≤ r .cell k + others
-      near =
+      not-far-behind : (k : ℕ) → IsHeld (r .cell k) → s .x + dueOver others rows i ≤ r .cell k + others
+      not-far-behind =
           set-each (λ k v. IsHeld v → s .x + dueOver others rows i ≤ v + others) (s .row i .cell) j (s .row j .token)
           (λ l. omega (
             arith,
             due-few,
-            held-from-x others j (s .x) (dueOver others (s .row) j) (s .row j .token) (s .row j .pivot) (s .row j .cell) (s .row j .place)
-                (inv .own j (o .index)) l,
+            held-at-least-x others s inv j (o .index) l,
           ))
-          (λ k _ l. omega (arith, due-no-more-here, o .reads .near k l))
+          (λ k _ l. omega (arith, due-no-more-here, o .reads .not-far-behind k l))
 
-      known : (k : ℕ) → Process (suc others) k → ¬ (k ≡ i) → KnowsOf others k (s .row k) i r
+      known : EachOther others i (λ k. KnowsOf others k (s .row k) i r)
       known k q d =
           record {
             seen = λ c l.
-                set-each (λ k v. i < clearedBelow others (s .row k .place) → k < suc j → Process (suc others) k → ¬ (k ≡ i) → v ≡ s .row k .token)
+                set-each
+                (λ k v. i < clearedBelow others (s .row k .place) → k < suc j → Process (suc others) k → ¬ (k ≡ i) → v ≡ s .row k .token)
                 (s .row i .cell) j (s .row j .token)
                 (λ _ _ _ _. refl)
                 (λ k z c l q d. known-at (at2 j) e k q d .seen c (omega arith))
                 k c (omega (arith, after .read)) q d;
-            first = known-at (at2 j) e k q d .first;
+            goes-before = known-at (at2 j) e k q d .goes-before;
           }
 
       keep : (v : Token) → NoGap others (s .x) (s .row) v → NoGap others (s .x) rows v
-      keep = gap-keeps others s i (s .x) r (omega arith) (λ a l e. e)
+      keep = no-gap-kept others s i (s .x) r (omega arith) (λ a l e. e)
 
-  -- Line 3 takes X for the pivot. The cells cluster around it: above by the pigeonhole, since i itself holds none of the tokens above X, and
-  -- below by what line 2 left.
+  -- Line 3 takes X for the pivot. The cells cluster around it: none is far above it by the pigeonhole, since i itself holds none of the
+  -- tokens above X; and none is far below it by what line 2 left.
   line3 : s .row i .place ≡ at3 → TurnAt at3
   line3 e =
       let o : Reads others (s .x) (dueOver others (s .row) i) (s .row i .token) (s .row i .cell) = sure at3 e in
       keeps-token at4 (s .x)
       (λ _. record {
-        holds = o .holds;
-        some = inv .begun;
-        behind = omega arith;
-        reached = omega arith;
-        near = λ k l. record {
-          below = omega (
+        no-token = o .no-token;
+        has-pivot = inv .begun;
+        pivot-behind-x = omega arith;
+        x-not-beyond = omega arith;
+        around-pivot = λ k l. record {
+          high = omega (
             arith,
             pigeonhole-but-one (λ k. s .row k .token) (suc others) (s .x) (s .row i .cell k) (inv .no-gap-to-cell i k process) i process
-                (omega (arith, o .holds)),
+                (omega (arith, o .no-token)),
           );
-          above = omega (arith, o .near k l);
+          low = omega (arith, o .not-far-behind k l);
         };
       })
       (omega arith)
@@ -307,29 +314,30 @@ module _ (others : ℕ) (s : State) (inv : Invariant others s) (i : ℕ) (proces
       let t : Token = nextUnbounded others (s .row i .pivot) (s .row i .cell) in
       let r : Row = record { place = at5; token = t; pivot = none; cell = λ _. none } in
       record {
-        own = record { holds = omega (arith, o .reached); clear = λ _. refl };
+        own = record { at-least-x = omega (arith, o .x-not-beyond); nothing-read = λ _. refl };
         others-own = others-sure others s i (s .x) r inv (omega arith);
         knows = omega arith;
         known = λ j q d. record {
           seen = omega arith;
-          first = λ l _. omega (
+          goes-before = λ l _. omega (
             arith,
             known-at at4 e j q d .seen (omega (arith, passed-cleared others (s .row j .place))) (omega (arith, q .high)),
             at-most-largest (s .row i .cell) (suc others) j q,
           );
         };
         rises = omega arith;
-        keeps = λ a l z. absurd (omega (arith, o .holds));
-        token-gap = λ a l m. by-number a t
+        keeps = λ a l z. absurd (omega (arith, o .no-token));
+        no-gap-to-token = λ a l m. by-equality a t
             (λ z. record { who = i; process = process; is = ap (λ (b : Row). b .token) (set-same (s .row) i r) ∙ sym z })
             (λ z.
             let w : Reaches (s .row i .cell) (suc others) a =
-            largest-reached (s .row i .cell) (suc others) a (omega arith) (omega (arith, o .behind)) in
-            gap-keeps others s i (s .x) r (omega arith) (λ a l z. absurd (omega (arith, o .holds))) (s .row i .cell (w .who))
+            largest-reached (s .row i .cell) (suc others) a (omega arith) (omega (arith, o .pivot-behind-x)) in
+            no-gap-kept others s i (s .x) r (omega arith) (λ a l z. absurd (omega (arith, o .no-token))) (s .row i .cell (w .who))
             (inv .no-gap-to-cell i (w .who) process) a l (w .reaches));
-        cell-gap = λ k a l m. absurd (omega arith);
+        no-gap-to-cell = λ k a l m. absurd (omega arith);
       }
 
+  -- Line 5 ends the choosing: no process is cleared yet.
   line5 : s .row i .place ≡ at5 → TurnAt at5
   line5 e =
       let g : GoesOn others i 0 (goesOn (suc others) i 0) = goes-on others i 0 in
@@ -338,11 +346,11 @@ module _ (others : ℕ) (s : State) (inv : Invariant others s) (i : ℕ) (proces
       (λ j q d _ l. absurd (omega (arith, q .low, g .due j q d l)))
       (λ j q d. record {
         seen = λ l _. absurd (omega (arith, q .low, g .cleared j q d l));
-        first = λ l _. absurd (omega (arith, q .low, g .passed j q d l));
+        goes-before = λ l _. absurd (omega (arith, q .low, g .passed j q d l));
       })
-      (λ j q d. record { seen = λ _ l. absurd (omega (arith, g .read, q .low)); first = known-at at5 e j q d .first })
+      (λ j q d. record { seen = λ _ l. absurd (omega (arith, g .read, q .low)); goes-before = known-at at5 e j q d .goes-before })
 
-  -- Line 6 sees that j is not choosing, so j has not read its cell of i.
+  -- Line 6 sees that j is not choosing. So j has read no cell: there is nothing yet that it should have seen, and i may be due over it.
   line6 : (j : ℕ) → s .row i .place ≡ at6 j → isChoosing (s .row j .place) ≡ false → TurnAt (at6 j)
   line6 j e free =
       keeps-token (at7 j) (s .row i .pivot)
@@ -350,14 +358,18 @@ module _ (others : ℕ) (s : State) (inv : Invariant others s) (i : ℕ) (proces
       (λ k q d l m. omega (arith, ap (dueBelow others) e, earlier-than-j k l m))
       (λ k q d. record {
         seen = λ l m. knows-at (at6 j) e k q d .seen (earlier-than-j k (omega arith) l) m;
-        first = knows-at (at6 j) e k q d .first;
+        goes-before = knows-at (at6 j) e k q d .goes-before;
       })
       (known-at (at6 j) e)
     where
       earlier-than-j : (k : ℕ) → 1 ≤ readBelow others (s .row k .place) → k < suc j → k < j
       earlier-than-j k l m =
-          by-number k j
-          (λ z. absurd (omega (arith, not-choosing others (s .row j .place) free, ap (λ (w : ℕ). readBelow others (s .row w .place)) z)))
+          by-equality k j
+          (λ z. absurd (omega (
+            arith,
+            not-choosing-none-read others (s .row j .place) free,
+            ap (λ (w : ℕ). readBelow others (s .row w .place)) z,
+          )))
           (λ z. omega arith)
 
   -- Line 7 finds that i goes before j.
@@ -371,27 +383,28 @@ module _ (others : ℕ) (s : State) (inv : Invariant others s) (i : ℕ) (proces
       (λ k q d _ l. omega (arith, ap (dueBelow others) e, g .due k q d l))
       (λ k q d. record {
         seen = λ l m. knows-at (at7 j) e k q d .seen (omega (arith, g .cleared k q d l)) m;
-        first = λ l m. by-number k j
+        goes-before = λ l m. by-equality k j
             (λ z. subst (λ (w : ℕ). IsHeld (s .row w .token) → s .row i .token < s .row w .token + below i w) (sym z) first m)
-            (λ z. knows-at (at7 j) e k q d .first (omega (arith, g .passed k q d l)) m);
+            (λ z. knows-at (at7 j) e k q d .goes-before (omega (arith, g .passed k q d l)) m);
       })
-      (λ k q d. record { seen = λ _ l. absurd (omega (arith, g .read)); first = known-at (at7 j) e k q d .first })
+      (λ k q d. record { seen = λ _ l. absurd (omega (arith, g .read)); goes-before = known-at (at7 j) e k q d .goes-before })
 
-  -- Line 8, the entry. No token is below i's, and there is no gap, so X rises by at most one.
+  -- Line 8 writes X. No other token is below i's and there is no gap, so X rises by at most one; and i is no longer due.
   line8 : s .row i .place ≡ at8 → TurnAt at8
   line8 e =
       record {
-        own = record { holds = refl; clear = o .clear };
+        own = record { is-x = refl; nothing-read = o .nothing-read };
         others-own = λ j q d.
             own-entered others (s .x) (s .row i .token) (dueOver others (s .row) j) (dueOver others rows j) i j (s .row j .token)
-            (s .row j .pivot) (s .row j .cell) (inv .begun) (o .holds) by-one process q d (s .row j .place)
-            (λ _. fewer-due j q) (knows-at at8 e j q d) (λ l. known-at at8 e j q d .first l (omega (arith, inv .begun, o .holds))) (inv .own j q);
+            (s .row j .pivot) (s .row j .cell) (inv .begun) (o .at-least-x) by-one process q d (s .row j .place)
+            (λ _. fewer-due j q) (knows-at at8 e j q d)
+            (λ l. known-at at8 e j q d .goes-before l (omega (arith, inv .begun, o .at-least-x))) (inv .own j q);
         knows = knows-at at8 e;
         known = known-at at8 e;
-        rises = o .holds;
+        rises = o .at-least-x;
         keeps = λ a l e. e;
-        token-gap = keep (s .row i .token) (inv .no-gap-to-token i process);
-        cell-gap = λ k. keep (s .row i .cell k) (inv .no-gap-to-cell i k process);
+        no-gap-to-token = keep (s .row i .token) (inv .no-gap-to-token i process);
+        no-gap-to-cell = λ k. keep (s .row i .cell k) (inv .no-gap-to-cell i k process);
       }
     where
       o : Holds (s .x) (s .row i .token) (s .row i .cell)
@@ -406,18 +419,19 @@ module _ (others : ℕ) (s : State) (inv : Invariant others s) (i : ℕ) (proces
           (λ l.
           let h : Has (λ k. s .row k .token) (suc others) (suc (s .x)) =
           inv .no-gap-to-token i process (suc (s .x)) (omega arith) (omega arith) in
-          by-number (h .who) i
+          by-equality (h .who) i
           (λ z. omega (arith, h .is, ap (λ (k : ℕ). s .row k .token) z))
           (λ z. omega (
             arith,
             h .is,
             below-most i (h .who),
-            knows-at at8 e (h .who) (h .process) z .first (omega (arith, h .process .high)) (omega (arith, h .is)),
+            knows-at at8 e (h .who) (h .process) z .goes-before (omega (arith, h .process .high)) (omega (arith, h .is)),
           )))
 
       fewer-due : (j : ℕ) → Process (suc others) j → dueOver others rows j < dueOver others (s .row) j
       fewer-due j q =
-          sum-less (λ k. below j (dueBelow others (rows k .place))) (λ k. below j (dueBelow others (s .row k .place))) (suc others) i process
+          sum-less (λ k. below j (dueBelow others (rows k .place))) (λ k. below j (dueBelow others (s .row k .place))) (suc others)
+          i process
           (omega (
             arith,
             below-zero j (dueBelow others (rows i .place))
@@ -428,25 +442,26 @@ module _ (others : ℕ) (s : State) (inv : Invariant others s) (i : ℕ) (proces
           (goes at9 (s .row i)) (omega (arith, below-zero j 0 (omega arith))) (λ k _. omega arith) k)
 
       keep : (v : Token) → NoGap others (s .x) (s .row) v → NoGap others (s .row i .token) rows v
-      keep = gap-keeps others s i (s .row i .token) (goes at9 (s .row i)) (o .holds) (λ a l e. e)
+      keep = no-gap-kept others s i (s .row i .token) (goes at9 (s .row i)) (o .at-least-x) (λ a l e. e)
 
+  -- Line 9 changes nothing but the line.
   line9 : s .row i .place ≡ at9 → TurnAt at9
   line9 e = keeps-token at10 (s .row i .pivot) (λ _. sure at9 e) (omega arith) (knows-at at9 e) (known-at at9 e)
 
-  -- Line 10 gives up X itself, so no token above it.
+  -- Line 10 gives up X itself, so no token above X.
   line10 : s .row i .place ≡ at10 → TurnAt at10
   line10 e =
       let o : Inside (s .x) (s .row i .token) (s .row i .cell) = sure at10 e in
       let r : Row = rowAfter others (unboundedMachine others) s i at10 in
       record {
-        own = record { holds = refl; clear = o .clear };
+        own = record { no-token = refl; nothing-read = o .nothing-read };
         others-own = others-sure others s i (s .x) r inv (omega arith);
         knows = omega arith;
         known = omega arith;
         rises = omega arith;
-        keeps = λ a l z. absurd (omega (arith, o .holds));
-        token-gap = λ a l m. absurd (omega arith);
-        cell-gap = λ k a l m. absurd (omega (arith, o .clear k));
+        keeps = λ a l z. absurd (omega (arith, o .is-x));
+        no-gap-to-token = λ a l m. absurd (omega arith);
+        no-gap-to-cell = λ k a l m. absurd (omega (arith, o .nothing-read k));
       }
 
   -- the turn of each line, where it moves
@@ -457,7 +472,7 @@ module _ (others : ℕ) (s : State) (inv : Invariant others s) (i : ℕ) (proces
   line-turn at4 e _ = line4 e
   line-turn at5 e _ = line5 e
   line-turn (at6 j) e free = line6 j e (not-true (isChoosing (s .row j .place)) free)
-  line-turn (at7 j) e pass = line7 j e (passes-first others i (s .row i .token) j (s .row j .token) pass)
+  line-turn (at7 j) e pass = line7 j e (passed-goes-before others i (s .row i .token) j (s .row j .token) pass)
   line-turn at8 e _ = line8 e
   line-turn at9 e _ = line9 e
   line-turn at10 e _ = line10 e

@@ -1,4 +1,5 @@
--- The model: n processes, each at one of the ten lines of source 002's Figure 2, and one step of one of them, in the grain of document 01.
+-- The model: n processes, each at one of the ten lines of source 002's Figure 2, and one step of one of them. A step is as small as
+-- document 01's: line 2 reads one token at a time.
 use Prim.Native.Nat.{ℕ, suc}
 use mathlib.Core.Bool.{Bool, true, false, cond, not, _||_}
 use lib.Dec.{leb, eqb}
@@ -12,6 +13,7 @@ pub data Place : Type 0 where
   at6 at7 : ℕ → Place
   at8 at9 at10 : Place
 
+-- one process. What it reads it keeps until line 4: in cell k the token of process k (source 002's S), and X as the pivot
 pub record Row : Type 0 where
   pub place : Place
   pub token : Token
@@ -22,6 +24,7 @@ pub record State : Type 0 where
   pub x : Token
   pub row : ℕ → Row
 
+-- in the beginning X is 0, and each process is at line 1 with no token
 abbrev pub fresh : State
 fresh = record { x = held 0; row = λ _. record { place = at1; token = none; pivot = none; cell = λ _. none } }
 
@@ -45,11 +48,11 @@ set f i a k = cond (eqb k i) a (f k)
 abbrev pub put : State → ℕ → Token → Row → State
 put s i x r = record { x = x; row = set (s .row) i r }
 
--- the row at another line, and no more
+-- the row at another place, and else as it was
 abbrev pub goes : Place → Row → Row
 goes p r = record { place = p; token = r .token; pivot = r .pivot; cell = r .cell }
 
--- after cell j of n is read
+-- where a process stands after it has read cell j of n
 abbrev pub afterCell : ℕ → ℕ → Place
 afterCell n j = cond (eqb j n) at3 (at2 (suc j))
 
@@ -57,7 +60,7 @@ afterCell n j = cond (eqb j n) at3 (at2 (suc j))
 abbrev pub nextOther : ℕ → ℕ → ℕ
 nextOther i j = cond (eqb (suc j) i) (suc (suc j)) (suc j)
 
--- line 6 for that number, or line 8 if no process has it
+-- where process i of n goes on after j: to line 6 for that number, or to line 8 if no process has it
 abbrev pub goesOn : ℕ → ℕ → ℕ → Place
 goesOn n i j = cond (leb (nextOther i j) n) (at6 (nextOther i j)) at8
 
@@ -112,6 +115,7 @@ xAfter s i at8 = s .row i .token
 xAfter s i at9 = s .x
 xAfter s i at10 = s .x
 
+-- the state after it
 abbrev pub moved : ℕ → Machine → State → ℕ → State
 moved others m s i = put s i (xAfter s i (s .row i .place)) (rowAfter others m s i (s .row i .place))
 

@@ -3,6 +3,8 @@
 -- n is `suc others`: each process has `others` others. So n - 1 is `others`, 2n - 1 is `modulus others`, and nothing is subtracted.
 use Prim.Native.Nat.{ℕ, zero, suc, _+_, _-_, _%_, _≤_, max}
 use mathlib.Core.Bool.{Bool, _&&_, _||_}
+use mathlib.Core.Path.{_≡_}
+use native.Mathlib.Omega.{arith}
 use lib.Dec.{ltb, eqb}
 use Rattle.table.specs.Tests.{within}
 use Rattle.theory.proofs.Counting.{largest}
@@ -22,9 +24,12 @@ held v = suc v
 abbrev pub IsHeld : Token → Type 0
 IsHeld t = 1 ≤ t
 
--- the v of a token that is held
+-- the number v of a held token
 abbrev pub numberOf : Token → ℕ
 numberOf t = t - 1
+
+pub number-of-held : (v : ℕ) → numberOf (held v) ≡ v
+number-of-held v = omega arith
 
 -- 2n - 1
 abbrev pub modulus : ℕ → ℕ
@@ -41,7 +46,7 @@ pub record Machine : Type 0 where
   pub next : Token → (ℕ → Token) → Token
   pub goesBefore : ℕ → Token → ℕ → Token → Bool
 
--- UB-Bakery. One more than the largest: of the pivot and the cells.
+-- UB-Bakery: one more than the largest of the pivot and the cells, and source 002's order [t, i] < [u, j]
 unfoldable pub nextUnbounded : ℕ → Token → (ℕ → Token) → Token
 nextUnbounded others pivot cell = suc (max pivot (largest cell (suc others)))
 
@@ -70,6 +75,7 @@ nextBounded others pivot cell =
 abbrev pub ahead : ℕ → ℕ → ℕ → ℕ
 ahead others v w = (w + (modulus others - v)) % modulus others
 
+-- source 002's [t, i] ≺ [u, j], where both tokens are shifted by n - 1 - t: u's is then the larger where u is 1 to n - 1 ahead of t
 unfoldable pub beforeBounded : ℕ → ℕ → Token → ℕ → Token → Bool
 beforeBounded others i t j u =
     let d = ahead others (numberOf t) (numberOf u) in
