@@ -9,8 +9,7 @@ use lib.IntN.{ℤ, pos, negsuc}
 use lib.ListN.{length}
 use Rattle.table.specs.Tests.{within, howMany}
 use Rattle.table.specs.Numbers.{slots, modulusOf}
-use Rattle.table.specs.Rules.{rowOf, cellOf, indexOk, choosingOk, cellRule, wellFormed}
-use Rattle.table.specs.Sized.{Sized}
+use Rattle.table.specs.Rules.{rowOf, cellOf, indexOk, choosingOk, cellRule}
 use Rattle.table.specs.declared.Row.{Row}
 use Rattle.table.specs.declared.Table.{Table}
 use Rattle.table.proofs.Tests.{by-test, and-both, every-all}
@@ -25,6 +24,7 @@ use Rattle.theory.proofs.Theorems as theory
 use Rattle.demands.specs.Agreement.{f, isRemainder, cellAgrees, rowAgrees, rowAtAgrees, agree, isCriticalLine, isCritical, atMostOne}
 use Rattle.demands.proofs.Views.{tokenOf, placeOf, rowView, view}
 use Rattle.demands.proofs.From1.{row-from1, cell-from1}
+use Rattle.demands.proofs.Tables.{TableFor, some-process}
 use Rattle.demands.proofs.RowFacts.{each-line, line-range, FromNone, from-zero, token-from-none, pivot-from-none, cell-from-none}
 
 -- Places.
@@ -159,36 +159,36 @@ module _ {others i n₁ n₂ : ℕ} {top₁ top₂ : ℤ} {u b : Row} (rules-u :
 -- Tables.
 
 -- two tables, where the view of the second is the remainders of the first's
-module _ (u b : Table) (formed-u : wellFormed u ≡ true) (formed-b : wellFormed b ≡ true) (sized-u : Sized u) (sized-b : Sized b)
-    (viewed : view b ≡ remainders (u .n - 1) (view u)) where
+module _ (n : ℕ) (u b : Table) {algorithm₁ algorithm₂ : ℕ} (for-u : TableFor algorithm₁ n u) (for-b : TableFor algorithm₂ n b)
+    (viewed : view b ≡ remainders (n - 1) (view u)) where
   -- so it is with row i of both
-  row-viewed : (i : ℕ) → 1 ≤ i → i ≤ slots → rowView (rowOf b i) ≡ rowReduced (u .n - 1) (rowView (rowOf u i))
+  row-viewed : (i : ℕ) → 1 ≤ i → i ≤ slots → rowView (rowOf b i) ≡ rowReduced (n - 1) (rowView (rowOf u i))
   row-viewed i low high =
-      rw (row-from1 u sized-u i low high, row-from1 b sized-b i low high) (ap (λ (s : model.State). s .row i) viewed)
+      rw (row-from1 u (for-u .sized) i low high, row-from1 b (for-b .sized) i low high) (ap (λ (s : model.State). s .row i) viewed)
 
   -- row i of both is at the same line
   pub line-view : (i : ℕ) → 1 ≤ i → i ≤ slots → rowOf b i .line ≡ rowOf u i .line
   line-view i low high =
-      same-line (table-rules u formed-u .rows i low high) (table-rules b formed-b .rows i low high) (row-viewed i low high)
+      same-line (table-rules u (for-u .formed) .rows i low high) (table-rules b (for-b .formed) .rows i low high) (row-viewed i low high)
 
   -- row i of both agrees
-  row-at-agrees : (i : ℕ) → 1 ≤ i → i ≤ slots → rowAtAgrees (modulus (u .n - 1)) u b i ≡ true
+  row-at-agrees : (i : ℕ) → 1 ≤ i → i ≤ slots → rowAtAgrees (modulus (n - 1)) u b i ≡ true
   unfolding rowAtAgrees
   row-at-agrees i low high =
-      row-agrees (table-rules u formed-u .rows i low high) (table-rules b formed-b .rows i low high) (row-viewed i low high)
-      (sized-u .cells i low high) (sized-b .cells i low high)
+      row-agrees (table-rules u (for-u .formed) .rows i low high) (table-rules b (for-b .formed) .rows i low high) (row-viewed i low high)
+      (for-u .sized .cells i low high) (for-b .sized .cells i low high)
 
   -- X of the second is the remainder of the first's
-  x-agrees : isRemainder (modulus (u .n - 1)) (u .x) (b .x) ≡ true
+  x-agrees : isRemainder (modulus (n - 1)) (u .x) (b .x) ≡ true
   x-agrees =
-      number-agrees (u .n - 1) (u .x) (b .x) (from-zero _ (b .x) (table-rules b formed-b .x)) (ap (λ (s : model.State). s .x) viewed)
+      number-agrees (n - 1) (u .x) (b .x) (from-zero _ (b .x) (table-rules b (for-b .formed) .x)) (ap (λ (s : model.State). s .x) viewed)
 
   -- so the tables agree
-  pub agree-view : agree (modulusOf (u .n)) u b ≡ true
+  pub agree-view : agree (modulusOf n) u b ≡ true
   unfolding agree
   agree-view =
-      let m : modulusOf (u .n) ≡ modulus (u .n - 1) = omega (arith, table-rules u formed-u .some) in
-      rw m (and-both x-agrees (every-all (rowAtAgrees (modulus (u .n - 1)) u b) slots row-at-agrees))
+      let m : modulusOf n ≡ modulus (n - 1) = omega (arith, some-process for-u) in
+      rw m (and-both x-agrees (every-all (rowAtAgrees (modulus (n - 1)) u b) slots row-at-agrees))
 
 -- Exclusion.
 
@@ -212,22 +212,22 @@ module _ (holds : ℕ → Bool) where
       (λ _. omega (arith, one-counted k (λ i j p q. same i j (earlier p) (earlier q))))
 
 -- exclusion in the view is "at most one process stands at lines 8 to 10"
-pub at-most-one-view : (t : Table) → wellFormed t ≡ true → Sized t → Exclusive (t .n - 1) (view t) → atMostOne t ≡ true
+pub at-most-one-view : (n : ℕ) (t : Table) {algorithm : ℕ} → TableFor algorithm n t → Exclusive (n - 1) (view t) → atMostOne t ≡ true
 unfolding atMostOne
-at-most-one-view t formed sized exclusive =
+at-most-one-view n t for exclusive =
     le-leb (howMany (isCritical t) slots) 1
     (one-counted (isCritical t) slots
     (λ i j p q first second. exclusive i j (process i p first) (process j q second) (critical i p first) (critical j q second)))
   where
     -- rows above n are at line 1
-    process : (i : ℕ) → Process slots i → isCritical t i ≡ true → Process (suc (t .n - 1)) i
+    process : (i : ℕ) → Process slots i → isCritical t i ≡ true → Process (suc (n - 1)) i
     process i p c =
-        by-order i (t .n)
+        by-order i n
         (λ l. record { low = p .low; high = omega arith })
-        (λ l. absurd (false≢true (rw (above-fresh t formed sized i l (p .high)) at c)))
+        (λ l. absurd (false≢true (rw (above-fresh t (for .formed) (for .sized) i (omega (arith, for .count)) (p .high)) at c)))
 
     -- and the view shows which are at lines 8 to 10
     critical : (i : ℕ) → Process slots i → isCritical t i ≡ true → theory.isCritical (view t .row i .place) ≡ true
     critical i p c =
-        rw (sym (row-from1 t sized i (p .low) (p .high)))
-        (critical-shown (table-rules t formed .rows i (p .low) (p .high)) ∙ c)
+        rw (sym (row-from1 t (for .sized) i (p .low) (p .high)))
+        (critical-shown (table-rules t (for .formed) .rows i (p .low) (p .high)) ∙ c)

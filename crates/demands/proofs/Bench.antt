@@ -40,7 +40,7 @@ steps : Unit {0}
 unfolding rules tokens nextOther goesOn line2 line4 line5 line6 line7 lineStep advanceOf takenOf stepOf
 steps = tt
 
-runs : Unit {0}
+unfoldable pub runs : Unit {0}
 unfolding steps flatten courseOf those movedIn waitedIn entriesIn enteredIn runRefusal runOf bufferOf
 runs = tt
 

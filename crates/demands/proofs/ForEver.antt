@@ -7,7 +7,7 @@ use native.Mathlib.Omega.{arith}
 use borrow.Author.Tests.{leb-true, eq-eqb}
 use lib.IntN.{ℤ, pos, negsuc, natAbs}
 use Rattle.table.specs.Tests.{withinℤ}
-use Rattle.table.specs.Numbers.{slots, bounded, none, isNone, limitOf}
+use Rattle.table.specs.Numbers.{bounded, none, isNone, limitOf}
 use Rattle.table.specs.Rules.{rowOf}
 use Rattle.table.specs.Fresh.{freshTable}
 use Rattle.table.specs.declared.Table.{Table}
@@ -23,8 +23,9 @@ use Rattle.theory.proofs.Bounded as theory
 use Rattle.demands.specs.ForEver.{Holds, aheadOf, Spread, OneArc, BoundedForEver}
 use Rattle.demands.proofs.Views.{tokenOf, view}
 use Rattle.demands.proofs.From1.{row-from1}
+use Rattle.demands.proofs.Tables.{some-process, in-table}
 use Rattle.demands.proofs.TokenViews.{ahead-view}
-use Rattle.demands.proofs.Mirrors.{Mirrors, fresh-mirrors, mirror-at-most-one, mirror-course}
+use Rattle.demands.proofs.Mirrors.{Mirrors, fresh-mirrors, mirror-accepts, mirror-at-most-one, mirror-course}
 
 -- a number that is 0 to a limit
 record Number (limit : ℕ) (v : ℤ) : Type 0 where
@@ -45,22 +46,16 @@ shown-held (pos a) number e = (ap pos (omega (arith, e)), refl)
 shown-held (negsuc a) number e = absurd (omega (arith, e))
 
 module _ (n : ℕ) (b : Table) (s : State) (m : Mirrors n b s) where
-  some : 1 ≤ n
-  some = omega (arith, m .table .count, table-rules b (m .table .formed) .some)
-
-  in-table : {i : ℕ} → i ≤ n → i ≤ slots
-  in-table high = omega (arith, m .table .count, table-rules b (m .table .formed) .most)
-
   -- the token of a process that holds one: a number below 2n - 1, and the view shows it
   token-number : (i : ℕ) → Holds n b i → Number (2 * n - 2) (rowOf b i .token)
   unfolding limitOf
   token-number i h =
-      let rules = table-rules b (m .table .formed) .rows i (h .low) (in-table (h .high)) in
+      let rules = table-rules b (m .table .formed) .rows i (h .low) (in-table (m .table) (h .high)) in
       let range = token-range (limitOf (b .algorithm) (b .n)) (rowOf b i .line) (rowOf b i .token) (rules .token) in
       held-number (2 * n - 2) (rowOf b i .token) (rw (m .table .machine, m .table .count) at range) (h .token)
 
   token-shown : (i : ℕ) → 1 ≤ i → i ≤ n → view b .row i .token ≡ tokenOf (rowOf b i .token)
-  token-shown i low high = ap (λ r. tokenOf (r .token)) (sym (row-from1 b (m .table .sized) i low (in-table high)))
+  token-shown i low high = ap (λ r. tokenOf (r .token)) (sym (row-from1 b (m .table .sized) i low (in-table (m .table) high)))
 
   process : {i : ℕ} → Holds n b i → Process (suc (n - 1)) i
   process h = record { low = h .low; high = omega (arith, h .high) }
@@ -71,7 +66,7 @@ module _ (n : ℕ) (b : Table) (s : State) (m : Mirrors n b s) where
   ahead-is i j hi hj =
       let v = token-number i hi in
       let w = token-number j hj in
-      rw (v .is, w .is) (ahead-view n some (v .number) (w .number) (omega (arith, v .most)))
+      rw (v .is, w .is) (ahead-view n (some-process (m .table)) (v .number) (w .number) (omega (arith, v .most)))
 
   spread : Spread n b
   spread i j hi hj =
@@ -79,7 +74,7 @@ module _ (n : ℕ) (b : Table) (s : State) (m : Mirrors n b s) where
       let w = token-number j hj in
       rw (ahead-is i j hi hj, ahead-is j i hj hi)
       (⊎-elim (λ near. inl (omega (arith, near))) (λ near. inr (omega (arith, near)))
-      (either-ahead (n - 1) (v .number) (w .number) (omega (arith, v .most, some)) (omega (arith, w .most, some))))
+      (either-ahead (n - 1) (v .number) (w .number) (omega (arith, v .most, some-process (m .table))) (omega (arith, w .most, some-process (m .table)))))
 
   -- what the view shows of the process i
   shown : (i : ℕ) (h : Holds n b i) → view b .row i .token ≡ held (token-number i h .number)
@@ -102,7 +97,7 @@ module _ (n : ℕ) (b : Table) (s : State) (m : Mirrors n b s) where
       low = in-view .process .low
 
       high : in-view .from ≤ n
-      high = omega (arith, in-view .process .high, some)
+      high = omega (arith, in-view .process .high, some-process (m .table))
 
       first-shown : (rowOf b (in-view .from) .token ≡ pos (in-view .number)) × (isNone (rowOf b (in-view .from) .token) ≡ false)
       first-shown = shown-held _ (in-view .number) (sym (token-shown (in-view .from) low high) ∙ in-view .holds)
@@ -117,4 +112,5 @@ pub bounded-for-ever : BoundedForEver
 bounded-for-ever n c schedule =
     let last = mirror-course n (freshTable bounded n) schedule (record { state = fresh; mirrors = fresh-mirrors n c }) in
     let t = courseOf (freshTable bounded n) schedule .table in
-    (mirror-at-most-one n t _ (last .mirrors), spread n t _ (last .mirrors), arc n t _ (last .mirrors))
+    let m = last .mirrors in
+    (mirror-at-most-one n t _ m, spread n t _ m, arc n t _ m, mirror-accepts n t _ m)

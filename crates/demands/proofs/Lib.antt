@@ -5,8 +5,10 @@ pub mod From1
 pub mod RowFacts
 pub mod TokenViews
 pub mod RowViews
+pub mod Tables
 pub mod StepViews
 pub mod Agreement
 pub mod Mirrors
 pub mod SideBySide
 pub mod ForEver
+pub mod Sharp

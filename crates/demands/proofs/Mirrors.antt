@@ -9,15 +9,13 @@ use borrow.Author.Tests.{eqb-true}
 use lib.Dec.{eqb}
 use Rattle.table.specs.Numbers.{bounded}
 use Rattle.table.specs.Refusals.{noRefusal}
-use Rattle.table.specs.Rules.{algorithmOk, countOk, wellFormed}
+use Rattle.table.specs.Rules.{countOk}
 use Rattle.table.specs.Fresh.{freshTable}
-use Rattle.table.specs.Sized.{Sized}
 use Rattle.table.specs.declared.Table.{Table}
 use Rattle.table.proofs.Tests.{by-test}
-use Rattle.table.proofs.WellFormed.{fresh-well-formed, fresh-sized}
 use Rattle.machine.specs.Step.{stepOf}
 use Rattle.machine.specs.Run.{Course, courseOf}
-use Rattle.machine.proofs.Steps.{step-machine, step-well-formed, step-sized, step-process}
+use Rattle.machine.proofs.Steps.{step-process}
 use Rattle.theory.proofs.Counting.{Process}
 use Rattle.theory.proofs.Tokens.{unboundedMachine, boundedMachine}
 use Rattle.theory.proofs.Model.{State, fresh, moves, step}
@@ -28,29 +26,9 @@ use Rattle.theory.proofs.Bounded.{remainders, fresh-on-remainders, Clustered, c
 use Rattle.demands.specs.Agreement.{atMostOne}
 use Rattle.demands.proofs.Views.{view}
 use Rattle.demands.proofs.From1.{fresh-view}
+use Rattle.demands.proofs.Tables.{TableFor, fresh-table-for, step-table-for}
 use Rattle.demands.proofs.StepViews.{StepSeen, step-seen, bounded-accepts}
 use Rattle.demands.proofs.Agreement.{at-most-one-view}
-
--- a table that is well formed, of one machine and for n processes
-pub record TableFor (algorithm n : ℕ) (t : Table) : Type 0 where
-  pub formed : wellFormed t ≡ true
-  pub sized : Sized t
-  pub machine : t .algorithm ≡ algorithm
-  pub count : t .n ≡ n
-
--- a fresh one, and one that a step leaves
-pub fresh-table-for : (algorithm n : ℕ) → algorithmOk algorithm ≡ true → countOk n ≡ true → TableFor algorithm n (freshTable algorithm n)
-fresh-table-for algorithm n known c =
-    record { formed = fresh-well-formed algorithm n known c; sized = fresh-sized algorithm n; machine = refl; count = refl }
-
-pub step-table-for : {algorithm n : ℕ} (t : Table) (i : ℕ) → TableFor algorithm n t → TableFor algorithm n (stepOf t i .table)
-step-table-for t i for =
-    record {
-      formed = step-well-formed t i (for .formed) (for .sized);
-      sized = step-sized t i (for .sized);
-      machine = step-machine t i .0 ∙ for .machine;
-      count = step-machine t i .1 ∙ for .count;
-    }
 
 -- the bounded table b for n processes shows the remainders of s, and s has the invariant
 pub record Mirrors (n : ℕ) (b : Table) (s : State) : Type 0 where
@@ -74,13 +52,13 @@ module _ (n : ℕ) (b : Table) (s : State) (m : Mirrors n b s) (i : ℕ) (low : 
 
   -- the table's is not refused,
   pub mirror-accepts : stepOf b i .stop ≡ noRefusal
-  mirror-accepts = bounded-accepts b i (m .table .formed) (m .table .machine) low (omega (arith, m .table .count))
+  mirror-accepts = bounded-accepts b i (m .table) low high
 
   clusters : Clustered (n - 1) s i
   clusters = clustered (n - 1) s (m .invariant) i process
 
   seen : StepSeen bounded n b i
-  seen = step-seen b i (m .table .formed) (m .table .sized) mirror-accepts (m .table .machine) (m .table .count)
+  seen = step-seen b i (m .table) mirror-accepts
 
   -- has the mark of the state's,
   pub mirror-mark : stepOf b i .mark ≡ cond (moves (unboundedMachine (n - 1)) s i) 1 0
@@ -104,8 +82,7 @@ module _ (n : ℕ) (b : Table) (s : State) (m : Mirrors n b s) (i : ℕ) (low : 
 -- At such a table at most one process stands at lines 8 to 10.
 pub mirror-at-most-one : (n : ℕ) (b : Table) (s : State) → Mirrors n b s → atMostOne b ≡ true
 mirror-at-most-one n b s m =
-    at-most-one-view b (m .table .formed) (m .table .sized)
-    (rw (m .table .count) (subst (Exclusive (n - 1)) (sym (m .shows)) (mutual-exclusion (n - 1) s (m .invariant))))
+    at-most-one-view n b (m .table) (subst (Exclusive (n - 1)) (sym (m .shows)) (mutual-exclusion (n - 1) s (m .invariant)))
 
 -- a table that shows some state
 pub record Mirror (n : ℕ) (b : Table) : Type 0 where

@@ -95,7 +95,7 @@ module _ (algorithm n i : ℕ) (s : State) where
     pub x : tokenOf (a .x) ≡ cond (canMove place) (xAfter s i place) (s .x)
     pub mark : a .mark ≡ cond (canMove place) 1 0
 
-  module _ (seen : Seen) (r : Row) (some : 1 ≤ n) (most : n ≤ slots) (sixteen : length (r .cells) ≡ slots)
+  module _ (seen : Seen) (r : Row) (some : 1 ≤ n) (most : n ≤ slots) (wide : length (r .cells) ≡ slots)
       (shows : Shows n i s seen r) where
     -- a step that moves and does not write X, and one that waits
     moved : (place : Place) {next : Row} → canMove place ≡ true → xAfter s i place ≡ s .x → rowView next ≡ after place
@@ -145,8 +145,8 @@ module _ (algorithm n i : ℕ) (s : State) where
     cells-known rules =
         record {
           wide = omega arith;
-          least = λ j. each-cell FromNone r sixteen refl j (λ low high. cell-from-none _ _ _ (rules .cells j low high));
-          above = λ j out. each-cell (λ (v : ℤ). v ≡ none) r sixteen refl j
+          least = λ j. each-cell FromNone r wide refl j (λ low high. cell-from-none _ _ _ (rules .cells j low high));
+          above = λ j out. each-cell (λ (v : ℤ). v ≡ none) r wide refl j
               (λ low high. cell-above _ (not (eqb j i)) _ (rw (lt-leb j n out) at (rules .cells j low high)));
         }
 

@@ -9,13 +9,12 @@ use lib.Dec.{eqb}
 use lib.ListN.{length, take}
 use lib.Seq.{take-length}
 use Rattle.table.specs.Tests.{within}
-use Rattle.table.specs.Numbers.{slots, unbounded, bounded, modulusOf}
+use Rattle.table.specs.Numbers.{slots, unbounded, bounded}
 use Rattle.table.specs.Refusals.{noRefusal}
 use Rattle.table.specs.Rules.{rowOf, countOk}
 use Rattle.table.specs.Fresh.{freshTable}
 use Rattle.table.specs.declared.Table.{Table}
 use Rattle.table.proofs.Tests.{by-test, and-both, many-same}
-use Rattle.table.proofs.WellFormed.{table-rules}
 use Rattle.machine.specs.Step.{stepOf}
 use Rattle.machine.specs.Run.{Course, turnOf, begunBy, courseOf, movedIn, waitedIn, entriesIn, enteredIn, isWaiting, waitingOf, answerOf}
 use Rattle.machine.specs.Run.{runRefusal, runOf, bufferOf}
@@ -24,14 +23,13 @@ use Rattle.machine.proofs.Steps.{step-process}
 use Rattle.machine.proofs.Courses.{course-first, all-taken}
 use Rattle.machine.proofs.Runs.{run-not-refused, run-answer, run-buffer}
 use Rattle.theory.proofs.Theorems.{mutual-exclusion}
-use Rattle.theory.proofs.Bounded.{remainders}
-use Rattle.demands.specs.Agreement.{agree, meets}
+use Rattle.demands.specs.Agreement.{meets}
 use Rattle.demands.specs.SideBySide.{Demand3, takenIn, UntilRefused, SameCounts, Alike, Piece, RunsMeet, InRuns}
 use Rattle.demands.proofs.Views.{view}
 use Rattle.demands.proofs.From1.{fresh-view}
 use Rattle.demands.proofs.StepViews.{StepSeen, step-seen}
 use Rattle.demands.proofs.Agreement.{line-view, agree-view, at-most-one-view}
-use Rattle.demands.proofs.Mirrors.{TableFor, fresh-table-for, step-table-for}
+use Rattle.demands.proofs.Tables.{TableFor, fresh-table-for, step-table-for, in-table}
 use Rattle.demands.proofs.Mirrors.{Mirrors, fresh-mirrors, mirror-accepts, mirror-mark, mirror-step, mirror-at-most-one}
 
 -- The unbounded table u and the bounded one b, for n processes, after the same bytes: b mirrors what u shows.
@@ -47,27 +45,20 @@ fresh-beside n c =
     }
 
 module _ (n : ℕ) (u b : Table) (beside : Beside n u b) where
-  shows : view b ≡ remainders (u .n - 1) (view u)
-  shows = subst (λ (k : ℕ). view b ≡ remainders (k - 1) (view u)) (sym (beside .table .count)) (beside .mirrors .shows)
-
   -- demand 3's words hold of the two
   beside-meets : meets n u b ≡ true
   unfolding meets
   beside-meets =
       let m = beside .mirrors in
-      let same = agree-view u b (beside .table .formed) (m .table .formed) (beside .table .sized) (m .table .sized) shows in
-      let exclusive = mutual-exclusion (n - 1) (view u) (m .invariant) in
       and-both
       (and-both
-      (subst (λ (k : ℕ). agree (modulusOf k) u b ≡ true) (beside .table .count) same)
-      (at-most-one-view u (beside .table .formed) (beside .table .sized) (rw (beside .table .count) exclusive)))
+      (agree-view n u b (beside .table) (m .table) (m .shows))
+      (at-most-one-view n u (beside .table) (mutual-exclusion (n - 1) (view u) (m .invariant))))
       (mirror-at-most-one n b (view u) m)
 
   -- their rows are at the same lines
   same-line : (i : ℕ) → 1 ≤ i → i ≤ slots → rowOf b i .line ≡ rowOf u i .line
-  same-line =
-      let m = beside .mirrors in
-      line-view u b (beside .table .formed) (m .table .formed) (beside .table .sized) (m .table .sized) shows
+  same-line = line-view n u b (beside .table) (beside .mirrors .table) (beside .mirrors .shows)
 
   -- so as many wait
   same-waiting : waitingOf b ≡ waitingOf u
@@ -82,7 +73,7 @@ module _ (n : ℕ) (u b : Table) (beside : Beside n u b) where
     high = omega (arith, beside .table .count, step-process u i taken .2)
 
     seen : StepSeen unbounded n u i
-    seen = step-seen u i (beside .table .formed) (beside .table .sized) taken (beside .table .machine) (beside .table .count)
+    seen = step-seen u i (beside .table) taken
 
     -- the bounded one takes it
     also-taken : stepOf b i .stop ≡ noRefusal
@@ -91,9 +82,8 @@ module _ (n : ℕ) (u b : Table) (beside : Beside n u b) where
     -- with the same turn: the same process, line and mark
     same-turn : turnOf b i ≡ turnOf u i
     same-turn =
-        let most : n ≤ slots = omega (arith, beside .table .count, table-rules u (beside .table .formed) .most) in
         let mark = mirror-mark n b (view u) (beside .mirrors) i low high ∙ sym (seen .mark) in
-        λ at. record { process = i; line = same-line i low (omega (arith, high)) at; mark = mark at }
+        λ at. record { process = i; line = same-line i low (in-table (beside .table) high) at; mark = mark at }
 
     -- and the tables after it are beside each other again
     step-beside : Beside n (stepOf u i .table) (stepOf b i .table)

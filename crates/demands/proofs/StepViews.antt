@@ -26,6 +26,7 @@ use Rattle.theory.proofs.Model as model
 use Rattle.demands.proofs.Views.{tokenOf, rowView, view, machineOf}
 use Rattle.demands.proofs.From1.{from1-set-view, row-from1}
 use Rattle.demands.proofs.RowFacts.{token-from-none}
+use Rattle.demands.proofs.Tables.{TableFor}
 use Rattle.demands.proofs.RowViews.{choosing-view, ShowsOther, Shows, Follows, advance-view}
 
 -- to put what is there changes nothing, so a choice of what is put is a choice of states
@@ -68,11 +69,11 @@ module _ (t : Table) (i : ℕ) (w : wellFormed t ≡ true) (z : Sized t) (accept
   advanced = advanceOf (t .algorithm) (t .n) i (seenOf t (rowOf t i)) (rowOf t i)
 
   -- what it sees is in the view
-  in-table : {j : ℕ} → j ≤ t .n → j ≤ slots
-  in-table h = omega (arith, table-rules t w .most)
+  within-slots : {j : ℕ} → j ≤ t .n → j ≤ slots
+  within-slots h = omega (arith, table-rules t w .most)
 
   row-view : (j : ℕ) → 1 ≤ j → j ≤ t .n → view t .row j ≡ rowView (rowOf t j)
-  row-view j l h = ap rowView (sym (row-from1 t z j l (in-table h)))
+  row-view j l h = ap rowView (sym (row-from1 t z j l (within-slots h)))
 
   shown : Shows (t .n) i (view t) (seenOf t (rowOf t i)) (rowOf t i)
   shown = record { own = row-view i low high; x = refl; other = other (rowOf t i .index) }
@@ -80,7 +81,7 @@ module _ (t : Table) (i : ℕ) (w : wellFormed t ≡ true) (z : Sized t) (accept
       other : (j : ℕ) → 1 ≤ j → j ≤ t .n
           → ShowsOther (view t) j (record { choosing = rowOf t j .choosing; token = rowOf t j .token; x = t .x })
       other j l h =
-          let rules = table-rules t w .rows j l (in-table h) in
+          let rules = table-rules t w .rows j l (within-slots h) in
           record {
             token = ap (λ (r : model.Row). r .token) (row-view j l h);
             least = token-from-none _ _ _ (rules .token);
@@ -95,14 +96,14 @@ module _ (t : Table) (i : ℕ) (w : wellFormed t ≡ true) (z : Sized t) (accept
       let place = ap (λ (r : model.Row). r .place) (sym (shown .own)) in
       subst (λ (p : Place). Follows (t .algorithm) (t .n) i (view t) p advanced) place
       (advance-view (t .algorithm) (t .n) i (view t) (seenOf t (rowOf t i)) (rowOf t i) (rules .some) (rules .most)
-      (z .cells i low (in-table high)) shown (rules .rows i low (in-table high))
+      (z .cells i low (within-slots high)) shown (rules .rows i low (within-slots high))
       (ap (λ (u : Stepped). u .stop) (sym taken) ∙ accepted))
 
   step-view : view (stepOf t i .table) ≡ step (t .n - 1) (machineOf (t .algorithm) (t .n - 1)) (view t) i
   unfolding takenOf
   step-view =
       ap (λ (u : Stepped). view (u .table)) taken
-      ∙ view-put t i advanced z low (in-table high)
+      ∙ view-put t i advanced z low (within-slots high)
       ∙ (λ at. put (view t) i (followed .x at) (followed .row at))
       ∙ put-choice (view t) i (moves (machineOf (t .algorithm) (t .n - 1)) (view t) i) _ _
 
@@ -110,12 +111,13 @@ module _ (t : Table) (i : ℕ) (w : wellFormed t ≡ true) (z : Sized t) (accept
   unfolding takenOf
   mark-view = ap (λ (u : Stepped). u .mark) taken ∙ followed .mark
 
-  -- The theorem: seen through the view, it is the step of the theory's machine of that algorithm, for that many processes, and its mark is
-  -- 1 just where that machine moves.
-  pub step-seen : {algorithm n : ℕ} → t .algorithm ≡ algorithm → t .n ≡ n → StepSeen algorithm n t i
-  step-seen {algorithm} {n} same-machine same-count =
-      subst (λ (k : ℕ). StepSeen algorithm k t i) same-count
-      (subst (λ (a : ℕ). StepSeen a (t .n) t i) same-machine (record { table = step-view; mark = mark-view }))
+-- The theorem: seen through the view, a step that is not refused is the step of the theory's machine of that algorithm, for that many
+-- processes, and its mark is 1 just where that machine moves.
+pub step-seen : {algorithm n : ℕ} (t : Table) (i : ℕ) → TableFor algorithm n t → stepOf t i .stop ≡ noRefusal → StepSeen algorithm n t i
+step-seen {algorithm} t i for accepted =
+    subst (λ (n : ℕ). StepSeen algorithm n t i) (for .count)
+    (subst (λ (a : ℕ). StepSeen a (t .n) t i) (for .machine)
+    (record { table = step-view t i (for .formed) (for .sized) accepted; mark = mark-view t i (for .formed) (for .sized) accepted }))
 
 -- The bounded machine refuses no step of a process.
 abbrev Accepted : Advanced → Type 0
@@ -139,9 +141,8 @@ bounded-advances n i seen r =
       elsewhere = refl;
     })
 
-pub bounded-accepts : (t : Table) (i : ℕ) → wellFormed t ≡ true → t .algorithm ≡ bounded → 1 ≤ i → i ≤ t .n
-    → stepOf t i .stop ≡ noRefusal
+pub bounded-accepts : {n : ℕ} (t : Table) (i : ℕ) → TableFor bounded n t → 1 ≤ i → i ≤ n → stepOf t i .stop ≡ noRefusal
 unfolding takenOf
-bounded-accepts t i w algorithm low high =
-    ap (λ (u : Stepped). u .stop) (step-taken t i w (within-yes 1 (t .n) i low high))
-    ∙ rw algorithm (bounded-advances (t .n) i (seenOf t (rowOf t i)) (rowOf t i))
+bounded-accepts t i for low high =
+    ap (λ (u : Stepped). u .stop) (step-taken t i (for .formed) (within-yes 1 (t .n) i low (omega (arith, for .count))))
+    ∙ rw (for .machine) (bounded-advances (t .n) i (seenOf t (rowOf t i)) (rowOf t i))

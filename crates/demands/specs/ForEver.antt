@@ -6,10 +6,12 @@ use mathlib.Core.Logic.{_⊎_}
 use mathlib.Core.List.{List}
 use lib.IntN.{_-ℤ_}
 use Rattle.table.specs.Numbers.{bounded, isNone, modulusOf}
+use Rattle.table.specs.Refusals.{noRefusal}
 use Rattle.table.specs.Rules.{rowOf, countOk}
 use Rattle.table.specs.Fresh.{freshTable}
 use Rattle.table.specs.declared.Table.{Table}
 use Rattle.machine.specs.Tokens.{remainder}
+use Rattle.machine.specs.Step.{stepOf}
 use Rattle.machine.specs.Run.{courseOf}
 use Rattle.demands.specs.Agreement.{atMostOne}
 
@@ -23,7 +25,7 @@ pub record Holds (n : ℕ) (t : Table) (i : ℕ) : Type 0 where
 abbrev pub aheadOf : ℕ → Table → ℕ → ℕ → ℕ
 aheadOf n t i j = remainder (rowOf t j .token -ℤ rowOf t i .token) (modulusOf n)
 
--- "any two held tokens are within n - 1 of each other going round modulo 2n - 1"
+-- any two held tokens are within n - 1 of each other, going round modulo 2n - 1
 abbrev pub Spread : ℕ → Table → Type 0
 Spread n t = (i j : ℕ) → Holds n t i → Holds n t j → (aheadOf n t i j ≤ n - 1) ⊎ (aheadOf n t j i ≤ n - 1)
 
@@ -34,10 +36,13 @@ pub record OneArc (n : ℕ) (t : Table) : Type 0 where
   pub holds : Holds n t from
   pub all : (j : ℕ) → Holds n t j → aheadOf n t from j ≤ n - 1
 
--- A course ends at the first byte that is refused, and the bounded machine refuses none but 0 and those above n; so the table is the one
--- after the bytes that it takes, whatever comes then.
+-- After every schedule at most one process stands at lines 8 to 10, the held tokens lie together, and the machine goes on: it refuses no byte
+-- but 0 and those above n. (A course ends at the first byte that is refused, so the table is the one after the bytes that are taken.)
 abbrev pub BoundedForEver : Type 0
 BoundedForEver =
     (n : ℕ) → countOk n ≡ true → (schedule : List ℕ)
     → let t = courseOf (freshTable bounded n) schedule .table in
-    (atMostOne t ≡ true) × Spread n t × ((i : ℕ) → Holds n t i → OneArc n t)
+    (atMostOne t ≡ true)
+    × Spread n t
+    × ((i : ℕ) → Holds n t i → OneArc n t)
+    × ((i : ℕ) → 1 ≤ i → i ≤ n → stepOf t i .stop ≡ noRefusal)

@@ -3,3 +3,4 @@ pub mod RoundTrips
 pub mod Agreement
 pub mod SideBySide
 pub mod ForEver
+pub mod Sharp

@@ -61,7 +61,8 @@ pub record Piece : Type 0 where
   pub buffer : List ℕ
 
 -- Both machines run each piece, from the tables u and b on. As long as the unbounded machine's run answers stop number 0, and so has at most
--- 60,000 bytes (refusal 6): demand 3 is met after it, and both runs have the same counts, stop number and entry list.
+-- 60,000 bytes (refusal 6) and a buffer as long (refusal 7): demand 3 is met after it, and both runs have the same counts, stop number and
+-- entry list. (A run that stops at a byte is, up to that byte, a run over the bytes before it, which are a piece too.)
 abbrev pub RunsMeet : ℕ → Table → Table → List Piece → Type 0
 RunsMeet n u b [] = Unit
 RunsMeet n u b (p ∷ later) =

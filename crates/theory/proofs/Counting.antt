@@ -76,7 +76,7 @@ unfolding sum
 sum-mono f g zero le = omega arith
 sum-mono f g (suc n) le = omega (arith, le (suc n) (last n), sum-mono f g n (λ i p. le i (earlier p)))
 
--- and less in one place besides is less in all
+-- and less in one place, and nowhere more, is less in all
 pub sum-less : (f g : ℕ → ℕ) (n e : ℕ) → Process n e → f e < g e → ((i : ℕ) → Process n i → f i ≤ g i) → sum f n < sum g n
 unfolding sum
 sum-less f g zero e p less le = absurd (omega (arith, p .low, p .high))

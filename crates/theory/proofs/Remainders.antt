@@ -1,5 +1,5 @@
--- Lemmas 1 and 2 of source 002: on tokens that lie within n - 1 of one another, the bounded machine's operations do with the remainders
--- modulo 2n - 1 what the unbounded machine's do with the tokens.
+-- Lemmas 1 and 2 of source 002: on tokens that lie within n - 1 of the pivot, or of the token of the process that reads them, the bounded
+-- machine's operations do with the remainders modulo 2n - 1 what the unbounded machine's do with the tokens.
 use Prim.Native.Nat.{ℕ, zero, suc, _+_, _-_, _*_, _/_, _%_, _≤_, _<_, max}
 use mathlib.Core.Path.{_≡_, refl, sym, ap, _∙_}
 use mathlib.Core.Logic.{_⊎_, inl, inr, ⊎-elim}

@@ -10,7 +10,8 @@ use Rattle.table.specs.Tests.{within}
 use Rattle.theory.proofs.Counting.{largest}
 
 -- In this proof a token is carried as the number one above it, and none as 0, because the prover's arithmetic reads natural numbers and
--- -1 is not one. Order and distance are the same on both sides of that, and no statement shows it: they say `none` and `held v`.
+-- -1 is not one. Order and distance are the same so, and the clauses of the invariant are read as of the tokens themselves; no theorem shows
+-- it: they say `none` and `held v`.
 abbrev pub Token : Type 0
 Token = ℕ
 
