@@ -1,5 +1,5 @@
 -- What the views of two tables say of the tables themselves: nothing that demand 3 speaks of is lost in a view.
-use Prim.Native.Nat.{ℕ, zero, suc, _+_, _-_, _≤_}
+use Prim.Native.Nat.{ℕ, suc, _-_, _<_, _≤_}
 use mathlib.Core.Path.{_≡_, refl, sym, ap, _∙_}
 use mathlib.Core.Bool.{Bool, true, false, false≢true, cond}
 use native.Mathlib.Omega.{arith}
@@ -12,9 +12,9 @@ use Rattle.table.specs.Numbers.{slots, modulusOf}
 use Rattle.table.specs.Rules.{rowOf, cellOf, indexOk, choosingOk, cellRule}
 use Rattle.table.specs.declared.Row.{Row}
 use Rattle.table.specs.declared.Table.{Table}
-use Rattle.table.proofs.Tests.{by-test, and-both, every-all}
+use Rattle.table.proofs.Tests.{and-both, every-all, many-at-most-one}
 use Rattle.table.proofs.WellFormed.{RowRules, table-rules, above-fresh}
-use Rattle.theory.proofs.Counting.{Process, earlier, last, by-order}
+use Rattle.theory.proofs.Counting.{Process, by-order}
 use Rattle.theory.proofs.Tokens.{modulus, reduced}
 use Rattle.theory.proofs.Model.{Place, at1, at2, at3, at4, at5, at6, at7, at8, at9, at10}
 use Rattle.theory.proofs.Model as model
@@ -190,44 +190,30 @@ module _ (n : ℕ) (u b : Table) {algorithm₁ algorithm₂ : ℕ} (for-u : Tabl
       let m : modulusOf n ≡ modulus (n - 1) = omega (arith, some-process for-u) in
       rw m (and-both x-agrees (every-all (rowAtAgrees (modulus (n - 1)) u b) slots row-at-agrees))
 
--- Exclusion.
-
-module _ (holds : ℕ → Bool) where
-  -- what holds of none of 1 to k is counted 0 times there,
-  none-counted : (k : ℕ) → ((i : ℕ) → Process k i → holds i ≡ true → ⊥) → howMany holds k ≡ 0
-  unfolding howMany
-  none-counted zero never = refl
-  none-counted (suc k) never =
-      by-test (λ (one : ℕ). howMany holds k + one ≡ 0) (holds (suc k))
-      (λ e. absurd (never (suc k) (last k) e))
-      (λ _. omega (arith, none-counted k (λ i p. never i (earlier p))))
-
-  -- and what holds of no two of them at most once
-  one-counted : (k : ℕ) → ((i j : ℕ) → Process k i → Process k j → holds i ≡ true → holds j ≡ true → i ≡ j) → howMany holds k ≤ 1
-  unfolding howMany
-  one-counted zero same = omega arith
-  one-counted (suc k) same =
-      by-test (λ (one : ℕ). howMany holds k + one ≤ 1) (holds (suc k))
-      (λ e. omega (arith, none-counted k (λ i p h. omega (arith, p .high, same i (suc k) (earlier p) (last k) h e))))
-      (λ _. omega (arith, one-counted k (λ i j p q. same i j (earlier p) (earlier q))))
-
 -- exclusion in the view is "at most one process stands at lines 8 to 10"
 pub at-most-one-view : (n : ℕ) (t : Table) {algorithm : ℕ} → TableFor algorithm n t → Exclusive (n - 1) (view t) → atMostOne t ≡ true
 unfolding atMostOne
 at-most-one-view n t for exclusive =
-    le-leb (howMany (isCritical t) slots) 1
-    (one-counted (isCritical t) slots
-    (λ i j p q first second. exclusive i j (process i p first) (process j q second) (critical i p first) (critical j q second)))
+    le-leb (howMany (isCritical t) slots) 1 (many-at-most-one (isCritical t) slots apart)
   where
     -- rows above n are at line 1
-    process : (i : ℕ) → Process slots i → isCritical t i ≡ true → Process (suc (n - 1)) i
-    process i p c =
+    process : (i : ℕ) → 1 ≤ i → i ≤ slots → isCritical t i ≡ true → Process (suc (n - 1)) i
+    process i low high c =
         by-order i n
-        (λ l. record { low = p .low; high = omega arith })
-        (λ l. absurd (false≢true (rw (above-fresh t (for .formed) (for .sized) i (omega (arith, for .count)) (p .high)) at c)))
+        (λ l. record { low = low; high = omega arith })
+        (λ l. absurd (false≢true (rw (above-fresh t (for .formed) (for .sized) i (omega (arith, for .count)) high) at c)))
 
     -- and the view shows which are at lines 8 to 10
-    critical : (i : ℕ) → Process slots i → isCritical t i ≡ true → theory.isCritical (view t .row i .place) ≡ true
-    critical i p c =
-        rw (sym (row-from1 t (for .sized) i (p .low) (p .high)))
-        (critical-shown (table-rules t (for .formed) .rows i (p .low) (p .high)) ∙ c)
+    critical : (i : ℕ) → 1 ≤ i → i ≤ slots → isCritical t i ≡ true → theory.isCritical (view t .row i .place) ≡ true
+    critical i low high c =
+        rw (sym (row-from1 t (for .sized) i low high)) (critical-shown (table-rules t (for .formed) .rows i low high) ∙ c)
+
+    -- so no two are
+    apart : (i j : ℕ) → 1 ≤ i → i < j → j ≤ slots → isCritical t i ≡ true → isCritical t j ≡ true → ⊥
+    apart i j low less high first second =
+        let most : i ≤ slots = omega arith in
+        let some : 1 ≤ j = omega arith in
+        omega (
+          arith,
+          exclusive i j (process i low most first) (process j some high second) (critical i low most first) (critical j some high second),
+        )

@@ -1,4 +1,4 @@
--- What its view needs of the rules of a row: that the line is one of ten, and that no number is below -1.
+-- What the view of a row needs of the row's rules: that the line is one of ten, and that no number is below -1.
 use Prim.Native.Nat.{ℕ, _≤_}
 use mathlib.Core.Path.{_≡_, refl}
 use mathlib.Core.Bool.{Bool, true, false≢true}

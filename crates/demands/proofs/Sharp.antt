@@ -1,4 +1,4 @@
--- The schedules of Sharp, each computed once, to the whole table, and what is said of it read off.
+-- The schedules of Sharp, computed: two of them to the whole table, from which what is said of it is read off.
 use Prim.Native.Nat.{ℕ, _-_, _≤_}
 use mathlib.Core.Path.{_≡_, refl, sym, ap, subst}
 use mathlib.Core.List.{_∷_}

@@ -1,4 +1,5 @@
--- The statements of demand 3 are not empty, and no number in them can be one better: schedules that show it.
+-- Demand 3 is not empty; modulo 2n - 2, or of lines 7 to 10, it is false, and so is the spread of tokens with n - 2: a schedule of two or
+-- three processes for each.
 use Prim.Native.Nat.{ℕ, _≤_}
 use mathlib.Core.Path.{_≡_}
 use mathlib.Core.Bool.{false}

@@ -90,6 +90,24 @@ module _ (f : ℕ → Bool) where
   unfolding howMany
   many-more k e h = rw (e, h, add-one k)
 
+  -- what holds of none of 1 to k is counted 0 times there,
+  many-none : (k : ℕ) → ((i : ℕ) → 1 ≤ i → i ≤ k → f i ≡ true → ⊥) → howMany f k ≡ 0
+  unfolding howMany
+  many-none zero never = refl
+  many-none (suc k) never =
+      by-test (λ (one : ℕ). howMany f k + one ≡ 0) (f (suc k))
+      (λ e. absurd (never (suc k) (omega arith) (omega arith) e))
+      (λ _. omega (arith, many-none k (λ i low high. never i low (omega arith))))
+
+  -- and what holds of no two of them at most once
+  pub many-at-most-one : (k : ℕ) → ((i j : ℕ) → 1 ≤ i → i < j → j ≤ k → f i ≡ true → f j ≡ true → ⊥) → howMany f k ≤ 1
+  unfolding howMany
+  many-at-most-one zero apart = omega arith
+  many-at-most-one (suc k) apart =
+      by-test (λ (one : ℕ). howMany f k + one ≤ 1) (f (suc k))
+      (λ e. omega (arith, many-none k (λ i low high h. apart i (suc k) low (omega arith) (omega arith) h e)))
+      (λ _. omega (arith, many-at-most-one k (λ i j low less high. apart i j low less (omega arith))))
+
 -- what holds of the same numbers holds of as many
 pub many-same : (f g : ℕ → Bool) (k : ℕ) → ((i : ℕ) → 1 ≤ i → i ≤ k → f i ≡ g i) → howMany f k ≡ howMany g k
 unfolding howMany

@@ -20,18 +20,21 @@ pub record Progress : Type 0 where
   -- and, with line 8 still to do, has seen each below this not choosing
   pub due : ℕ
 
--- `suc (suc others)` is n + 1: each process is below it
+-- n + 1: each process is below it
+abbrev pub pastAll : ℕ → ℕ
+pastAll others = suc (suc others)
+
 abbrev progress : ℕ → Place → Progress
 progress others at1 = record { read = 0; cleared = 0; passed = 0; due = 0 }
 progress others (at2 j) = record { read = j; cleared = 0; passed = 0; due = 0 }
-progress others at3 = record { read = suc (suc others); cleared = 0; passed = 0; due = 0 }
-progress others at4 = record { read = suc (suc others); cleared = 0; passed = 0; due = 0 }
+progress others at3 = record { read = pastAll others; cleared = 0; passed = 0; due = 0 }
+progress others at4 = record { read = pastAll others; cleared = 0; passed = 0; due = 0 }
 progress others at5 = record { read = 0; cleared = 0; passed = 0; due = 0 }
 progress others (at6 j) = record { read = 0; cleared = j; passed = j; due = j }
 progress others (at7 j) = record { read = 0; cleared = suc j; passed = j; due = suc j }
-progress others at8 = record { read = 0; cleared = suc (suc others); passed = suc (suc others); due = suc (suc others) }
-progress others at9 = record { read = 0; cleared = suc (suc others); passed = suc (suc others); due = 0 }
-progress others at10 = record { read = 0; cleared = suc (suc others); passed = suc (suc others); due = 0 }
+progress others at8 = record { read = 0; cleared = pastAll others; passed = pastAll others; due = pastAll others }
+progress others at9 = record { read = 0; cleared = pastAll others; passed = pastAll others; due = 0 }
+progress others at10 = record { read = 0; cleared = pastAll others; passed = pastAll others; due = 0 }
 
 abbrev pub readBelow : ℕ → Place → ℕ
 readBelow others place = progress others place .read
@@ -58,7 +61,7 @@ KnowsOf others i a j b =
     Knows i (clearedBelow others (a .place)) (passedBelow others (a .place)) (a .token) j (readBelow others (b .place)) (b .token)
     (b .cell i)
 
--- How many may still do line 8 while j chooses: those that have seen j not choosing. Any other waits for j at line 6 (Observation 2 of
+-- How many may still do line 8 while j chooses: those that have seen j not choosing and have line 8 still to do. Any other waits for j at line 6 (Observation 2 of
 -- source 002).
 abbrev pub dueOver : ℕ → (ℕ → Row) → ℕ → ℕ
 dueOver others row j = sum (λ k. below j (dueBelow others (row k .place))) (suc others)

@@ -11,7 +11,7 @@ use Rattle.theory.proofs.Counting.{sum-less, sum-but-one, at-most-large
 use Rattle.theory.proofs.Tokens.{Token, none, IsHeld, nextUnbounded, beforeUnbounded, unboundedMachine}
 use Rattle.theory.proofs.Model.{Place, at1, at2, at3, at4, at5, at6, at7, at8, at9, at10, Row, State}
 use Rattle.theory.proofs.Model.{isChoosing, set, goes, afterCell, nextOther, goesOn, passes, movesAt, moves, rowAfter, xAfter, step}
-use Rattle.theory.proofs.Invariant.{readBelow, clearedBelow, passedBelow, dueBelow, Knows, KnowsOf, dueOver}
+use Rattle.theory.proofs.Invariant.{pastAll, readBelow, clearedBelow, passedBelow, dueBelow, Knows, KnowsOf, dueOver}
 use Rattle.theory.proofs.Invariant.{Idle, Reads, ReadsCell, Chooses, Holds, Waits, Inside, Own, OwnOf, NoGap, Invariant}
 use Rattle.theory.proofs.Invariant.{own-at, held-at-least-x, passed-cleared, not-choosing-none-read}
 use Rattle.theory.proofs.Turns.{set-each, set-same, reads-still, EachOther, NoMoreDue}
@@ -113,10 +113,10 @@ passed-goes-before others i t j u e some =
 -- and i is no longer due over j.
 module _ (others x x′ due due′ i j : ℕ) (u p : Token) (cell : ℕ → Token) (begun : IsHeld x) (rises : x ≤ x′) (by-one : x′ ≤ suc x)
     (pi : Process (suc others) i) (pj : Process (suc others) j) (apart : ¬ (j ≡ i)) where
-  all-i : i < suc (suc others)
+  all-i : i < pastAll others
   all-i = omega (arith, pi .high)
 
-  all-j : j < suc (suc others)
+  all-j : j < pastAll others
   all-j = omega (arith, pj .high)
 
   -- a token that i goes before is still at least X
@@ -133,7 +133,7 @@ module _ (others x x′ due due′ i j : ℕ) (u p : Token) (cell : ℕ → Toke
 
   -- so at each place: i has cleared and passed every other, and j goes before i if it has passed i
   own-entered : (place : Place) → (1 ≤ readBelow others place → due′ < due)
-      → Knows i (suc (suc others)) (suc (suc others)) x′ j (readBelow others place) u (cell i)
+      → Knows i (pastAll others) (pastAll others) x′ j (readBelow others place) u (cell i)
       → (i < passedBelow others place → u < x′ + below j i)
       → Own others j x due u p cell place → Own others j x′ due′ u p cell place
   own-entered at1 fewer known back o = o

@@ -7,7 +7,7 @@ use Rattle.theory.proofs.Counting.{Process, by-equality, below-either, 
 use Rattle.theory.proofs.Tokens.{Token, held, IsHeld}
 use Rattle.theory.proofs.Remainders.{Near}
 use Rattle.theory.proofs.Model.{Place, at1, at2, at3, at4, at5, at6, at7, at8, at9, at10, State}
-use Rattle.theory.proofs.Invariant.{passedBelow, dueOver, Chooses, Own, Invariant, own-at, held-at-least-x}
+use Rattle.theory.proofs.Invariant.{pastAll, passedBelow, dueOver, Chooses, Own, Invariant, own-at, held-at-least-x}
 
 -- Of a state that has the invariant.
 module _ (others : ℕ) (s : State) (inv : Invariant others s) where
@@ -71,7 +71,7 @@ Exclusive others s =
 -- a process at those lines holds a token and has passed every other
 record Entered (others : ℕ) (t : Token) (p : Place) : Type 0 where
   holds : IsHeld t
-  passed : passedBelow others p ≡ suc (suc others)
+  passed : passedBelow others p ≡ pastAll others
 
 entered : (others i x due : ℕ) (t pivot : Token) (cell : ℕ → Token) (p : Place) → IsHeld x → Own others i x due t pivot cell p
     → isCritical p ≡ true → Entered others t p

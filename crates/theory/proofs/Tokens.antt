@@ -1,6 +1,6 @@
 -- Tokens, and the two operations on them in which the machines differ: the next token, and who goes before.
 --
--- n is `suc others`: each process has `others` others. So n - 1 is `others`, 2n - 1 is `modulus others`, and nothing is subtracted.
+-- n is `suc others`: each process has `others` others. So n - 1 is `others`, 2n - 1 is `modulus others`, and nothing is subtracted from n.
 use Prim.Native.Nat.{ℕ, zero, suc, _+_, _-_, _%_, _≤_, max}
 use mathlib.Core.Bool.{Bool, _&&_, _||_}
 use mathlib.Core.Path.{_≡_}
