@@ -1,6 +1,6 @@
 -- The bounded machine for ever, proved: its table shows the remainders of a state that has the invariant, after every schedule.
 use Prim.Native.Nat.{ℕ, suc, _*_, _-_, _≤_}
-use mathlib.Core.Path.{_≡_, refl, sym, ap, subst, _∙_}
+use mathlib.Core.Path.{_≡_, refl, sym, ap, _∙_}
 use mathlib.Core.Bool.{true, false, true≢false}
 use mathlib.Core.Logic.{⊎-elim, inl, inr}
 use native.Mathlib.Omega.{arith}
@@ -18,8 +18,8 @@ use Rattle.theory.proofs.Counting.{Process}
 use Rattle.theory.proofs.Tokens.{held, ahead}
 use Rattle.theory.proofs.Remainders.{either-ahead}
 use Rattle.theory.proofs.Model.{State, fresh}
-use Rattle.theory.proofs.Bounded.{one-arc}
-use Rattle.theory.proofs.Bounded as theory
+use Rattle.theory.proofs.Mirrors.{one-arc}
+use Rattle.theory.proofs.Mirrors as theory
 use Rattle.demands.specs.ForEver.{Holds, aheadOf, Spread, OneArc, BoundedForEver}
 use Rattle.demands.proofs.Views.{tokenOf, view}
 use Rattle.demands.proofs.From1.{row-from1}
@@ -89,9 +89,7 @@ module _ (n : ℕ) (b : Table) (s : State) (m : Mirrors n b s) where
       }
     where
       in-view : theory.OneArc (n - 1) (view b)
-      in-view =
-          let start = ap (λ (shows : State). shows .row i .token) (sym (m .shows)) ∙ shown i h in
-          subst (theory.OneArc (n - 1)) (sym (m .shows)) (one-arc (n - 1) s (m .invariant) i _ (process h) start)
+      in-view = one-arc (n - 1) (view b) s (m .state) i _ (process h) (shown i h)
 
       low : 1 ≤ in-view .from
       low = in-view .process .low

@@ -17,12 +17,10 @@ use Rattle.machine.specs.Step.{stepOf}
 use Rattle.machine.specs.Run.{Course, courseOf}
 use Rattle.machine.proofs.Steps.{step-process}
 use Rattle.theory.proofs.Counting.{Process}
-use Rattle.theory.proofs.Tokens.{unboundedMachine, boundedMachine}
+use Rattle.theory.proofs.Tokens.{unboundedMachine}
 use Rattle.theory.proofs.Model.{State, fresh, moves, step}
-use Rattle.theory.proofs.Invariant.{Invariant, fresh-invariant}
-use Rattle.theory.proofs.Lines.{step-keeps}
-use Rattle.theory.proofs.Theorems.{Exclusive, mutual-exclusion}
-use Rattle.theory.proofs.Bounded.{remainders, fresh-on-remainders, Clustered, clustered, moves-on-remainders, step-on-remainders}
+use Rattle.theory.proofs.Mirrors.{moves-alike, step-mirrors, bounded-exclusion}
+use Rattle.theory.proofs.Mirrors as theory
 use Rattle.demands.specs.Agreement.{atMostOne}
 use Rattle.demands.proofs.Views.{view}
 use Rattle.demands.proofs.From1.{fresh-view}
@@ -30,19 +28,17 @@ use Rattle.demands.proofs.Tables.{TableFor, fresh-table-for, step-table
 use Rattle.demands.proofs.StepViews.{StepSeen, step-seen, bounded-accepts}
 use Rattle.demands.proofs.Agreement.{at-most-one-view}
 
--- the bounded table b for n processes shows the remainders of s, and s has the invariant
+-- the bounded table b for n processes shows the remainders of the unbounded machine's state s
 pub record Mirrors (n : ℕ) (b : Table) (s : State) : Type 0 where
   pub table : TableFor bounded n b
-  pub invariant : Invariant (n - 1) s
-  pub shows : view b ≡ remainders (n - 1) s
+  pub state : theory.Mirrors (n - 1) (view b) s
 
 -- as the fresh table does of the fresh state
 pub fresh-mirrors : (n : ℕ) → countOk n ≡ true → Mirrors n (freshTable bounded n) fresh
 fresh-mirrors n c =
     record {
       table = fresh-table-for bounded n refl c;
-      invariant = fresh-invariant (n - 1);
-      shows = fresh-view bounded n ∙ sym (fresh-on-remainders (n - 1));
+      state = subst (λ (shown : State). theory.Mirrors (n - 1) shown fresh) (sym (fresh-view bounded n)) (theory.fresh-mirrors (n - 1));
     }
 
 -- Both take a step of process i.
@@ -54,35 +50,26 @@ module _ (n : ℕ) (b : Table) (s : State) (m : Mirrors n b s) (i : ℕ) (low : 
   pub mirror-accepts : stepOf b i .stop ≡ noRefusal
   mirror-accepts = bounded-accepts b i (m .table) low high
 
-  clusters : Clustered (n - 1) s i
-  clusters = clustered (n - 1) s (m .invariant) i process
-
   seen : StepSeen bounded n b i
   seen = step-seen b i (m .table) mirror-accepts
 
   -- has the mark of the state's,
   pub mirror-mark : stepOf b i .mark ≡ cond (moves (unboundedMachine (n - 1)) s i) 1 0
-  mirror-mark =
-      seen .mark
-      ∙ ap (λ (shown : State). cond (moves (boundedMachine (n - 1)) shown i) 1 0) (m .shows)
-      ∙ ap (λ (can : Bool). cond can 1 0) (moves-on-remainders (n - 1) s i clusters)
+  mirror-mark = seen .mark ∙ ap (λ (can : Bool). cond can 1 0) (moves-alike (n - 1) (view b) s (m .state) i process)
 
   -- and leaves a table that shows what the state's leaves
   pub mirror-step : Mirrors n (stepOf b i .table) (step (n - 1) (unboundedMachine (n - 1)) s i)
   mirror-step =
+      let next = step (n - 1) (unboundedMachine (n - 1)) s i in
+      let mirrored = step-mirrors (n - 1) (view b) s (m .state) i process in
       record {
         table = step-table-for b i (m .table);
-        invariant = step-keeps (n - 1) s (m .invariant) i process;
-        shows =
-            seen .table
-            ∙ ap (λ (shown : State). step (n - 1) (boundedMachine (n - 1)) shown i) (m .shows)
-            ∙ step-on-remainders (n - 1) s i clusters;
+        state = subst (λ (shown : State). theory.Mirrors (n - 1) shown next) (sym (seen .table)) mirrored;
       }
 
 -- At such a table at most one process stands at lines 8 to 10.
 pub mirror-at-most-one : (n : ℕ) (b : Table) (s : State) → Mirrors n b s → atMostOne b ≡ true
-mirror-at-most-one n b s m =
-    at-most-one-view n b (m .table) (subst (Exclusive (n - 1)) (sym (m .shows)) (mutual-exclusion (n - 1) s (m .invariant)))
+mirror-at-most-one n b s m = at-most-one-view n b (m .table) (bounded-exclusion (n - 1) (view b) s (m .state))
 
 -- a table that shows some state
 pub record Mirror (n : ℕ) (b : Table) : Type 0 where

@@ -52,13 +52,13 @@ module _ (n : ℕ) (u b : Table) (beside : Beside n u b) where
       let m = beside .mirrors in
       and-both
       (and-both
-      (agree-view n u b (beside .table) (m .table) (m .shows))
-      (at-most-one-view n u (beside .table) (mutual-exclusion (n - 1) (view u) (m .invariant))))
+      (agree-view n u b (beside .table) (m .table) (m .state .shows))
+      (at-most-one-view n u (beside .table) (mutual-exclusion (n - 1) (view u) (m .state .invariant))))
       (mirror-at-most-one n b (view u) m)
 
   -- their rows are at the same lines
   same-line : (i : ℕ) → 1 ≤ i → i ≤ slots → rowOf b i .line ≡ rowOf u i .line
-  same-line = line-view n u b (beside .table) (beside .mirrors .table) (beside .mirrors .shows)
+  same-line = line-view n u b (beside .table) (beside .mirrors .table) (beside .mirrors .state .shows)
 
   -- so as many wait
   same-waiting : waitingOf b ≡ waitingOf u

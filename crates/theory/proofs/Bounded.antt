@@ -1,5 +1,5 @@
 -- The bounded machine does what the unbounded one does, on remainders.
-use Prim.Native.Nat.{ℕ, zero, suc, _%_, _≤_}
+use Prim.Native.Nat.{ℕ, zero, suc, _%_}
 use mathlib.Core.Path.{_≡_, refl, sym, ap, _∙_}
 use mathlib.Core.Bool.{cond}
 use native.Mathlib.Nat.{zero-mod}
@@ -7,10 +7,10 @@ use native.Mathlib.Omega.{arith}
 use borrow.Author.Tests.{ne-eqb}
 use lib.Dec.{eqb}
 use Rattle.table.proofs.Tests.{of-choice}
-use Rattle.theory.proofs.Counting.{Process, Least, least-of}
-use Rattle.theory.proofs.Tokens.{Token, none, held, IsHeld, numberOf, modulus, reduced, ahead}
+use Rattle.theory.proofs.Counting.{Process}
+use Rattle.theory.proofs.Tokens.{Token, none, held, IsHeld, modulus, reduced}
 use Rattle.theory.proofs.Tokens.{nextUnbounded, nextBounded, unboundedMachine, boundedMachine}
-use Rattle.theory.proofs.Remainders.{Near, lemma-1, lemma-2, ahead-if-above}
+use Rattle.theory.proofs.Remainders.{Near, lemma-1, lemma-2}
 use Rattle.theory.proofs.Model.{Place, at1, at2, at3, at4, at5, at6, at7, at8, at9, at10, Row, State, fresh}
 use Rattle.theory.proofs.Model.{set, put, afterCell, passes, movesAt, moves, rowAfter, xAfter, moved, step}
 use Rattle.theory.proofs.Invariant.{Invariant, own-at}
@@ -143,43 +143,4 @@ clustered others s inv i process =
       around-pivot = λ e p k v _. theorem-2 others s inv i k p v process e;
       has-token = λ j e. omega (arith, inv .begun, own-at others s inv i process (at7 j) e .token .at-least-x);
       around-token = λ j e v w. theorem-3 others s inv i j v w process (own-at others s inv i process (at7 j) e .index);
-    }
-
--- The held tokens lie together: some process holds the first of them, and none is more than n - 1 ahead of that, going round modulo 2n - 1.
-pub record OneArc (others : ℕ) (s : State) : Type 0 where
-  pub from : ℕ
-  pub process : Process (suc others) from
-  pub number : ℕ
-  pub holds : s .row from .token ≡ held number
-  pub all : (j w : ℕ) → Process (suc others) j → s .row j .token ≡ held w → ahead others number w ≤ others
-
--- t is a held token whose remainder is v
-record HeldBefore (others : ℕ) (t : Token) (v : ℕ) : Type 0 where
-  number : ℕ
-  holds : t ≡ held number
-  is : number % modulus others ≡ v
-
-held-before : (others : ℕ) (t : Token) (v : ℕ) → reduced others t ≡ held v → HeldBefore others t v
-held-before others zero v e = absurd (omega (arith, e))
-held-before others (suc w) v e = record { number = w; holds = refl; is = omega (arith, e) }
-
--- where a token is held, the held tokens lie together: the first is the least, since none is more than n - 1 above it (Theorem 3)
-pub one-arc : (others : ℕ) (s : State) → Invariant others s → (i v : ℕ) → Process (suc others) i
-    → remainders others s .row i .token ≡ held v → OneArc others (remainders others s)
-one-arc others s inv i v process holds =
-    let least : Least (λ k. s .row k .token) (suc others) =
-    least-of (λ k. s .row k .token) (suc others) i process (omega (arith, held-before others (s .row i .token) v holds .holds)) in
-    let first : ℕ = numberOf (s .row (least .who) .token) in
-    let is-first : s .row (least .who) .token ≡ held first = omega (arith, least .some) in
-    record {
-      from = least .who;
-      process = least .process;
-      number = first % modulus others;
-      holds = ap (reduced others) is-first;
-      all = λ j w q e.
-          let b : HeldBefore others (s .row j .token) w = held-before others (s .row j .token) w e in
-          let near : Near others first (b .number) =
-          theorem-3 others s inv (least .who) j first (b .number) (least .process) q is-first (b .holds) in
-          let above : first ≤ b .number = omega (arith, is-first, b .holds, least .least j q (omega (arith, b .holds))) in
-          rw (sym (b .is), ahead-if-above others first (b .number) above (near .high)) (omega (arith, near .high));
     }

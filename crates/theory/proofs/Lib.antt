@@ -7,3 +7,4 @@ pub mod Turns
 pub mod Lines
 pub mod Theorems
 pub mod Bounded
+pub mod Mirrors
