@@ -10,8 +10,8 @@ use Rattle.table.specs.Tests.{within}
 use Rattle.theory.proofs.Counting.{largest}
 
 -- In this proof a token is carried as the number one above it, and none as 0, because the prover's arithmetic reads natural numbers and
--- -1 is not one. Order and distance are the same so, and the clauses of the invariant are read as of the tokens themselves; no theorem shows
--- it: they say `none` and `held v`.
+-- -1 is not one. Order and distance come out the same, so the clauses of the invariant can be read as of the tokens themselves. No theorem
+-- shows it: they say `none` and `held v`.
 abbrev pub Token : Type 0
 Token = ℕ
 
@@ -22,6 +22,7 @@ none = 0
 abbrev pub held : ℕ → Token
 held v = suc v
 
+-- a token, and not none
 abbrev pub IsHeld : Token → Type 0
 IsHeld t = 1 ≤ t
 
