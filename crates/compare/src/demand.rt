@@ -25,7 +25,8 @@ fn number_of(v: Value) -> u32
     v.0 as u32
 }
 
-// Whether a number of the bounded table is the unbounded one's remainder modulo m. -1, the only number below 0 that a table holds, goes with -1.
+// Whether a number of the bounded table is the unbounded one's remainder modulo m. -1, the only number below 0 that a table holds, goes
+// with -1.
 fn is_remainder(m: u32, unbounded: Value, bounded: Value) -> bool
     requires { ⌜ 0 < m ⌝ }
     ensures { λ b. ⌜ b ≡ isRemainder m (unbounded .0) (bounded .0) ⌝ }

@@ -1,5 +1,5 @@
 -- The bounded machine for ever, proved: its table shows the remainders of a state that has the invariant, after every schedule.
-use Prim.Native.Nat.{ℕ, suc, _*_, _-_, _≤_}
+use Prim.Native.Nat.{ℕ, suc, _*_, _-_, _<_, _≤_}
 use mathlib.Core.Path.{_≡_, refl, sym, ap, _∙_}
 use mathlib.Core.Bool.{true, false, true≢false}
 use mathlib.Core.Logic.{⊎-elim, inl, inr}
@@ -15,7 +15,7 @@ use Rattle.table.proofs.Tests.{and-halves}
 use Rattle.table.proofs.WellFormed.{table-rules, token-range}
 use Rattle.machine.specs.Run.{courseOf}
 use Rattle.theory.proofs.Counting.{Process}
-use Rattle.theory.proofs.Tokens.{held, ahead}
+use Rattle.theory.proofs.Tokens.{held, modulus, ahead}
 use Rattle.theory.proofs.Remainders.{either-ahead}
 use Rattle.theory.proofs.Model.{State, fresh}
 use Rattle.theory.proofs.Mirrors.{one-arc}
@@ -46,13 +46,16 @@ shown-held (pos a) number e = (ap pos (omega (arith, e)), refl)
 shown-held (negsuc a) number e = absurd (omega (arith, e))
 
 module _ (n : ℕ) (b : Table) (s : State) (m : Mirrors n b s) where
-  -- the token of a process that holds one: a number below 2n - 1, and the view shows it
+  -- the token of a process that holds one is a number below 2n - 1, and the view shows it
   token-number : (i : ℕ) → Holds n b i → Number (2 * n - 2) (rowOf b i .token)
   unfolding limitOf
   token-number i h =
       let rules = table-rules b (m .table .formed) .rows i (h .low) (in-table (m .table) (h .high)) in
       let range = token-range (limitOf (b .algorithm) (b .n)) (rowOf b i .line) (rowOf b i .token) (rules .token) in
       held-number (2 * n - 2) (rowOf b i .token) (rw (m .table .machine, m .table .count) at range) (h .token)
+
+  below-modulus : (i : ℕ) (h : Holds n b i) → token-number i h .number < modulus (n - 1)
+  below-modulus i h = omega (arith, token-number i h .most, some-process (m .table))
 
   token-shown : (i : ℕ) → 1 ≤ i → i ≤ n → view b .row i .token ≡ tokenOf (rowOf b i .token)
   token-shown i low high = ap (λ r. tokenOf (r .token)) (sym (row-from1 b (m .table .sized) i low (in-table (m .table) high)))
@@ -74,7 +77,7 @@ module _ (n : ℕ) (b : Table) (s : State) (m : Mirrors n b s) where
       let w = token-number j hj in
       rw (ahead-is i j hi hj, ahead-is j i hj hi)
       (⊎-elim (λ near. inl (omega (arith, near))) (λ near. inr (omega (arith, near)))
-      (either-ahead (n - 1) (v .number) (w .number) (omega (arith, v .most, some-process (m .table))) (omega (arith, w .most, some-process (m .table)))))
+      (either-ahead (n - 1) (v .number) (w .number) (below-modulus i hi) (below-modulus j hj)))
 
   -- what the view shows of the process i
   shown : (i : ℕ) (h : Holds n b i) → view b .row i .token ≡ held (token-number i h .number)

@@ -9,7 +9,8 @@ use Rattle.table.specs.Rules.{rowOf, cellOf}
 use Rattle.table.specs.declared.Row.{Row}
 use Rattle.table.specs.declared.Table.{Table}
 
--- Source 002: "f(-1) = -1 and for all v ≥ 0, f(v) = v mod (2n-1)". The modulus is m; -1 is the only number below 0 that a well-formed table holds.
+-- Source 002: "f(-1) = -1 and for all v ≥ 0, f(v) = v mod (2n-1)". The modulus is m; -1 is the only number below 0 that a well-formed
+-- table holds.
 unfoldable pub f : ℕ → ℤ → ℤ
 f m (pos v) = pos (v % m)
 f m (negsuc _) = none

@@ -36,8 +36,8 @@ pub record OneArc (n : ℕ) (t : Table) : Type 0 where
   pub holds : Holds n t from
   pub all : (j : ℕ) → Holds n t j → aheadOf n t from j ≤ n - 1
 
--- After every schedule at most one process stands at lines 8 to 10, the held tokens lie together, and the machine goes on: it refuses no byte
--- but 0 and those above n. (A course ends at the first byte that is refused, so the table is the one after the bytes that are taken.)
+-- After every schedule at most one process stands at lines 8 to 10, the held tokens lie together, and the machine goes on: it refuses no
+-- byte but 0 and those above n. (A course ends at the first byte that is refused, so the table is the one after the bytes that are taken.)
 abbrev pub BoundedForEver : Type 0
 BoundedForEver =
     (n : ℕ) → countOk n ≡ true → (schedule : List ℕ)

@@ -1,7 +1,7 @@
--- Demand 3 of the order: "For every process count from 1 to 16 and every schedule, however long, start both machines fresh and give them the
--- same bytes. Until the unbounded one refuses a byte, after every byte all rows agree in line, index and choosing flag; X and every token,
--- pivot and read cell of the bounded table is the unbounded one's remainder modulo 2n - 1, with -1 for -1; and at most one process stands at
--- lines 8 to 10." What these words say of two tables is `meets`, in Agreement.
+-- Demand 3 of the order: "For every process count from 1 to 16 and every schedule, however long, start both machines fresh and give them
+-- the same bytes. Until the unbounded one refuses a byte, after every byte all rows agree in line, index and choosing flag; X and every
+-- token, pivot and read cell of the bounded table is the unbounded one's remainder modulo 2n - 1, with -1 for -1; and at most one process
+-- stands at lines 8 to 10." What these words say of two tables is `meets`, in Agreement.
 use Prim.Native.Nat.{ℕ}
 use mathlib.Core.Path.{_≡_}
 use mathlib.Core.Bool.{true}
@@ -60,9 +60,9 @@ pub record Piece : Type 0 where
   pub schedule : List ℕ
   pub buffer : List ℕ
 
--- Both machines run each piece, from the tables u and b on. As long as the unbounded machine's run answers stop number 0, and so has at most
--- 60,000 bytes (refusal 6) and a buffer as long (refusal 7): demand 3 is met after it, and both runs have the same counts, stop number and
--- entry list. (A run that stops at a byte is, up to that byte, a run over the bytes before it, which are a piece too.)
+-- Both machines run each piece, from the tables u and b on. As long as the unbounded machine's run answers stop number 0, and so has at
+-- most 60,000 bytes (refusal 6) and a buffer as long (refusal 7): demand 3 is met after it, and both runs have the same counts, stop number
+-- and entry list. (A run that stops at a byte is, up to that byte, a run over the bytes before it, which are a piece too.)
 abbrev pub RunsMeet : ℕ → Table → Table → List Piece → Type 0
 RunsMeet n u b [] = Unit
 RunsMeet n u b (p ∷ later) =

@@ -61,8 +61,8 @@ KnowsOf others i a j b =
     Knows i (clearedBelow others (a .place)) (passedBelow others (a .place)) (a .token) j (readBelow others (b .place)) (b .token)
     (b .cell i)
 
--- How many may still do line 8 while j chooses: those that have seen j not choosing and have line 8 still to do. Any other waits for j at line 6 (Observation 2 of
--- source 002).
+-- How many may still do line 8 while j chooses: those that have seen j not choosing and have line 8 still to do. Any other waits for j at
+-- line 6 (Observation 2 of source 002).
 abbrev pub dueOver : ℕ → (ℕ → Row) → ℕ → ℕ
 dueOver others row j = sum (λ k. below j (dueBelow others (row k .place))) (suc others)
 

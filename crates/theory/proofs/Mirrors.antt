@@ -1,5 +1,5 @@
--- The bounded machine for ever: step by step it is at the remainders of where the unbounded machine is. So mutual exclusion holds of it too,
--- and its tokens lie together.
+-- The bounded machine for ever: step by step it is at the remainders of where the unbounded machine is. So mutual exclusion holds of it
+-- too, and its tokens lie together.
 use Prim.Native.Nat.{ℕ, zero, suc, _%_, _≤_}
 use mathlib.Core.Path.{_≡_, refl, sym, ap, subst, _∙_}
 use native.Mathlib.Omega.{arith}
