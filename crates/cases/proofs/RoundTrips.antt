@@ -5,13 +5,13 @@ use mathlib.Core.List.{List}
 use borrow.Author.Tests.{eqb-true}
 use lib.Dec.{eqb}
 use lib.ListN.{length, take}
-use Rattle.table.specs.Refusals.{noRefusal}
+use Rattle.fields.specs.Refusals.{noRefusal}
 use Rattle.table.specs.Sized.{Sized}
 use Rattle.table.specs.declared.Table.{Table}
-use Rattle.table.proofs.Tests.{by-test}
-use Rattle.stored.specs.Writing.{writeOf, bufferOf}
-use Rattle.stored.specs.Reading.{readOf}
-use Rattle.stored.specs.declared.Restored.{Restored}
+use Rattle.fields.proofs.Tests.{by-test}
+use Rattle.writer.specs.Writing.{writeOf, bufferOf}
+use Rattle.reader.specs.Reading.{readOf}
+use Rattle.reader.specs.declared.Restored.{Restored}
 use Rattle.demands.proofs.RoundTrips.{written-and-read}
 use Rattle.cases.specs.RoundTrips.{writtenAndRead}
 

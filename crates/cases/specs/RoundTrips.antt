@@ -6,14 +6,14 @@ use mathlib.Core.Bool.{cond}
 use mathlib.Core.List.{List, []}
 use lib.Dec.{eqb}
 use lib.ListN.{length}
-use Rattle.table.specs.Refusals.{noRefusal}
+use Rattle.fields.specs.Refusals.{noRefusal}
 use Rattle.table.specs.Lent.{inFront}
 use Rattle.table.specs.declared.Table.{Table}
-use Rattle.stored.specs.Form.{formLength}
-use Rattle.stored.specs.Writing.{writeOf}
-use Rattle.stored.specs.Reading.{readOf}
-use Rattle.stored.specs.declared.Restored.{Restored}
-use Rattle.stored.specs.declared.Wrote.{Wrote}
+use Rattle.writer.specs.Form.{formLength}
+use Rattle.writer.specs.Writing.{writeOf}
+use Rattle.reader.specs.Reading.{readOf}
+use Rattle.reader.specs.declared.Restored.{Restored}
+use Rattle.writer.specs.declared.Wrote.{Wrote}
 
 -- what is read of a table that is written: that table where the write is accepted, and else what a read of no bytes answers
 unfoldable pub writtenAndRead : Table → List ℕ → Restored

@@ -12,7 +12,7 @@ use crate::reading::TABLE_LENGTH;
 use crate::reading::length_at;
 use crate::reading::table_in;
 use listing::LISTING_ROOM;
-use machine::Ran;
+use runs::Ran;
 use table::Table;
 
 // For a file that is a case of no kind.
@@ -55,7 +55,7 @@ fn put_counts(r: Ran) {
 
 fn put_ran(start: Table, schedule: &[u8], lent: &mut [u8]) {
     fill(lent);
-    let r = machine::run(start, schedule, lent);
+    let r = runs::run(start, schedule, lent);
     put_counts(r);
     put_lent(b"entered", lent, r.entries);
     put_table(r.table);

@@ -16,9 +16,9 @@ use crate::reading::length_at;
 use crate::reading::table_in;
 use crate::round_trips::read_and_written;
 use crate::round_trips::written_and_read;
-use stored::Restored;
+use fields::refusal;
+use reader::Restored;
 use table::Table;
-use table::refusal;
 
 fn put_restored(r: Restored) {
     put_byte(b"stop ", r.stop);
@@ -40,7 +40,7 @@ fn put_again(form: &[u8], lent: &mut [u8]) {
 pub(crate) fn put_read(form: &[u8])
     requires { do ⌜ length (now form) ≤ (← ⟦LONGEST_CASE⟧) ⌝ }
 {
-    let r = stored::read(form);
+    let r = reader::read(form);
     put_restored(r);
     if r.stop == refusal::NO_REFUSAL {
         let mut buffer = io::large_buffer();
@@ -51,7 +51,7 @@ pub(crate) fn put_read(form: &[u8])
 
 fn put_wrote(t: Table, lent: &mut [u8]) {
     fill(lent);
-    let w = stored::write(t, lent);
+    let w = writer::write(t, lent);
     put_count(b"length ", w.length);
     put_byte(b" stop ", w.stop);
     end_line();

@@ -1,10 +1,10 @@
 // Words, numbers and tables on standard output.
 ghost use Prim.Native.Nat.{_<_};
-ghost use Rattle.table.specs.Numbers.{slots};
+ghost use Rattle.fields.specs.Numbers.{slots};
+use fields::NONE;
+use fields::SLOTS;
 use libc::STDOUT_FILENO;
-use table::NONE;
 use table::Row;
-use table::SLOTS;
 use table::Table;
 
 pub(crate) fn put(text: &[u8]) {

@@ -1,9 +1,9 @@
 // The numbers and the table in a case file.
 ghost use Prim.Native.Nat.{_+_, _<_, _≤_};
 ghost use lib.ListN.{length};
-use table::NONE;
+use fields::NONE;
+use fields::SLOTS;
 use table::Row;
-use table::SLOTS;
 use table::Table;
 
 // How many bytes a case file may have.

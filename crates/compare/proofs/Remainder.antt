@@ -9,7 +9,7 @@ use lib.IntN.{ℤ, pos, negsuc, natAbs}
 use lib.Signed.{ltZ, nonNeg}
 use mir.Syntax.{w32}
 use mir.Val.{SFits, Fits}
-use Rattle.table.specs.Numbers.{isNone}
+use Rattle.fields.specs.Numbers.{isNone}
 use Rattle.demands.specs.Agreement.{f, isRemainder}
 
 pub not-below-zero : (z : ℤ) → ltZ z (pos 0) ≡ false → T (nonNeg z)

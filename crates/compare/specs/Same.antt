@@ -2,7 +2,7 @@
 use Prim.Native.Nat.{_+_}
 use mathlib.Core.Bool.{Bool, _&&_}
 use lib.Dec.{eqb}
-use Rattle.table.specs.Numbers.{tokenLimit}
+use Rattle.fields.specs.Numbers.{tokenLimit}
 use Rattle.table.specs.declared.Table.{Table}
 use Rattle.demands.specs.Agreement.{agree}
 

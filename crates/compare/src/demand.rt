@@ -7,15 +7,15 @@ ghost use lib.Dec.{T};
 ghost use lib.IntN.{pos, natAbs};
 ghost use lib.ListN.{getD};
 ghost use lib.Signed.{nonNeg};
-ghost use Rattle.table.specs.Tests.{every};
-ghost use Rattle.table.specs.Numbers.{slots, modulusOf};
+ghost use Rattle.fields.specs.Tests.{every};
+ghost use Rattle.fields.specs.Numbers.{slots, modulusOf};
 ghost use Rattle.demands.specs.Agreement.{isRemainder, cellAgrees, rowAgrees, rowAtAgrees, agree, isCritical, atMostOne, meets};
 ghost use Rattle.compare.specs.Same.{same};
+use fields::SLOTS;
+use fields::TOKEN_LIMIT;
+use fields::Value;
 use table::Row;
-use table::SLOTS;
-use table::TOKEN_LIMIT;
 use table::Table;
-use table::Value;
 
 // A number that is not below zero.
 fn number_of(v: Value) -> u32
@@ -116,7 +116,7 @@ fn critical_at(t: Table, k: usize) -> u8
     ensures { λ c. ⌜ c ≤ 1 ⌝ }
 {
     let r = t.rows[k];
-    if table::number_within(8, 10, r.line) {
+    if fields::number_within(8, 10, r.line) {
         return 1;
     }
     0

@@ -7,12 +7,12 @@ mod tally;
 
 ghost use mathlib.Core.Path.{_≡_};
 ghost use Prim.Native.Nat.{_+_, _*_, _^_, _≤_, _<_};
-ghost use Rattle.table.specs.Numbers.{slots};
+ghost use Rattle.fields.specs.Numbers.{slots};
 ghost use Rattle.compare.specs.Tally.{Sound};
+use fields::MOST_PROCESSES;
 use libc::STDOUT_FILENO;
 use pair::Pair;
 use schedule::Schedule;
-use table::MOST_PROCESSES;
 use tally::Tally;
 
 // How many passages without waits a schedule has bytes for.

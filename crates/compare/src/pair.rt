@@ -2,12 +2,12 @@
 ghost use Prim.Native.Nat.{_<_};
 use crate::demand;
 use crate::tally::Event;
+use fields::BOUNDED;
+use fields::SLOTS;
+use fields::UNBOUNDED;
+use fields::refusal;
 use machine::Stepped;
-use table::BOUNDED;
-use table::SLOTS;
 use table::Table;
-use table::UNBOUNDED;
-use table::refusal;
 
 // A table of each machine.
 pub(crate) struct Pair {
@@ -46,7 +46,7 @@ fn is_entry(before: Table, process: u8, stop: u8) -> bool {
 // The stop number that both machines must give a byte: only a "process number 0 or above n" is refused. Refusal 5 would need a token above
 // 1,000,000, for which the schedules are too short; it would count as a disagreement.
 fn stop_due(n: u8, byte: u8) -> u8 {
-    if table::number_within(1, n, byte) {
+    if fields::number_within(1, n, byte) {
         return refusal::NO_REFUSAL;
     }
     refusal::BAD_PROCESS_NUMBER

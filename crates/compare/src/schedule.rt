@@ -1,6 +1,6 @@
 // Pseudo-random schedules, the same at every run. A schedule is a row of bursts, and a burst is one byte several times.
 ghost use Prim.Native.Nat.{_≤_, _<_};
-ghost use Rattle.table.specs.Numbers.{slots};
+ghost use Rattle.fields.specs.Numbers.{slots};
 
 // Where a schedule stands: the byte to give now, how many times more it is to be given, and what the rest is drawn from.
 pub(crate) struct Schedule {

@@ -2,7 +2,7 @@
 ghost use mathlib.Core.Path.{_≡_};
 ghost use Prim.Native.Nat.{_+_, _≤_, _<_, _^_};
 ghost use Rattle.compare.specs.Tally.{Sound};
-use table::refusal;
+use fields::refusal;
 
 // What came of one byte: the unbounded machine's mark and stop number, whether it was an entry, and whether the machines agree after it.
 pub(crate) struct Event {

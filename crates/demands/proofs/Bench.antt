@@ -1,52 +1,60 @@
 -- The bench cases of document 01 hold: the definitions compute to the paper's numbers.
 use Prim.Native.Nat.{ℕ, _-_}
-use mathlib.Core.Path.{_≡_, refl, ap}
+use mathlib.Core.Path.{_≡_, refl, ap, _∙_}
 use mathlib.Core.Bool.{true}
-use mathlib.Core.List.{_∷_, [], _++_, flatten}
+use mathlib.Core.List.{List, _∷_, [], _++_}
+use native.Mathlib.Omega.{arith}
 use borrow.Author.Tests.{le-leb}
-use lib.Dec.{leb·zero}
+use lib.Dec.{leb, leb·zero}
 use lib.IntN.{ℤ, pos}
-use lib.ListN.{length, replicate}
-use Rattle.table.specs.Tests.{every, howMany}
-use Rattle.table.specs.Numbers.{slots, unbounded, bounded, limitOf, tokenLimit}
-use Rattle.table.specs.Refusals.{noRefusal}
-use Rattle.table.specs.Rules.{rowOf, algorithmOk, lineOk, indexOk, choosingOk, tokenOk, pivotOk, mayHold}
-use Rattle.table.specs.Rules.{cellOk, cellRule, cellsOk, rowOk, rowRule, rowsOk, wellFormed}
+use lib.ListN.{length, replicate, length-replicate}
+use Rattle.fields.specs.Tests.{every, howMany}
+use Rattle.fields.specs.Numbers.{slots, unbounded, bounded, tokenLimit, scheduleLimit}
+use Rattle.fields.specs.Refusals.{noRefusal}
+use Rattle.fields.specs.Rules.{algorithmOk, countOk}
+use Rattle.table.specs.WellFormed.{rowOf, wellFormed}
 use Rattle.table.specs.Fresh.{allNone, freshRow, freshTable}
+use Rattle.table.specs.Lent.{inFront}
 use Rattle.table.specs.declared.Row.{Row}
 use Rattle.table.specs.declared.Table.{Table}
-use Rattle.table.proofs.Tests.{_and_, within-low, within-high, every-at}
+use Rattle.fields.proofs.Tests.{_and_, within-low, within-high, every-at}
 use Rattle.table.proofs.WellFormed.{fresh-well-formed}
-use Rattle.machine.specs.Tokens.{remainder, largest, nextUb, shifted, shiftedCell, nextB, beforeUb, beforeB, nextToken, goesBefore}
 use Rattle.machine.specs.Setters.{withLine, withIndex, withToken}
-use Rattle.machine.specs.Step.{nextOther, goesOn, line2, line4, line5, line6, line7, lineStep, advanceOf, takenOf, stepOf}
-use Rattle.machine.specs.Run.{courseOf, those, movedIn, waitedIn, entriesIn, enteredIn, runRefusal, runOf, bufferOf}
+use Rattle.machine.specs.Step.{line4, lineStep, advanceOf, takenOf, stepOf}
+use Rattle.runs.specs.Run.{Course, courseOf, those, movedIn, waitedIn, entriesIn, enteredIn, answerOf, runRefusal, runOf, bufferOf}
 use Rattle.machine.specs.declared.Stepped.{Stepped}
+use Rattle.runs.specs.declared.Ran.{Ran}
 use Rattle.machine.proofs.Steps.{step-taken}
-use Rattle.demands.specs.Bench.{onBoth, forEachCount, ran, entered, stepWaits, atLine4, alternating, threeOnes, benchCases, allHold}
+use Rattle.runs.proofs.Runs.{run-answer, run-buffer}
+use Rattle.demands.specs.Bench.{onBoth, forEachCount, lentFor, ran, entered, stepWaits, atLine4, alternating, threeOnes}
+use Rattle.demands.specs.Bench.{benchCases, allHold}
 use Rattle.demands.specs.Bench as cases
+use Rattle.demands.proofs.Computed.{numbers, plain, fresh-plain, rules, tokens, steps, runs, plainly}
 
--- What the definitions compute by. To unfold one of these names is to unfold the list under it.
+-- A run of process numbers from a fresh table is not refused, and comes to what its plain course gives.
+module _ (algorithm n : ℕ) (schedule : List ℕ) (known : algorithmOk algorithm ≡ true) (count : countOk n ≡ true)
+    (each : numbers n schedule ≡ true) (short : leb (length schedule) scheduleLimit ≡ true) where
+  accepted : runRefusal (freshTable algorithm n) schedule (lentFor schedule) ≡ noRefusal
+  unfolding runRefusal
+  accepted =
+      let lent : length (lentFor schedule) ≡ length schedule = length-replicate (length schedule) 0 in
+      rw (fresh-well-formed algorithm n known count, short, lent, le-leb (length schedule) (length schedule) (omega arith))
 
-rules : Unit {0}
-unfolding every howMany limitOf lineOk indexOk choosingOk tokenOk pivotOk mayHold cellOk cellRule cellsOk rowOk rowRule rowsOk wellFormed
-rules = tt
+  fresh-run : ran (freshTable algorithm n) schedule ≡ answerOf (plain (freshTable algorithm n) schedule)
+  fresh-run = run-answer _ _ _ accepted ∙ ap answerOf (fresh-plain algorithm n schedule known count each)
 
-tokens : Unit {0}
-unfolding remainder largest nextUb shifted shiftedCell nextB beforeUb beforeB nextToken goesBefore
-tokens = tt
-
-steps : Unit {0}
-unfolding rules tokens nextOther goesOn line2 line4 line5 line6 line7 lineStep advanceOf takenOf stepOf
-steps = tt
-
-unfoldable pub runs : Unit {0}
-unfolding steps flatten courseOf those movedIn waitedIn entriesIn enteredIn runRefusal runOf bufferOf
-runs = tt
+  fresh-entries : bufferOf (freshTable algorithm n) schedule (lentFor schedule)
+      ≡ inFront (enteredIn (plain (freshTable algorithm n) schedule .turns)) (lentFor schedule)
+  fresh-entries =
+      run-buffer _ _ _ accepted
+      ∙ ap (λ (c : Course). inFront (enteredIn (c .turns)) (lentFor schedule)) (fresh-plain algorithm n schedule known count each)
 
 alone : cases.alone
-unfolding runs
-alone = ((refl, refl), (refl, refl))
+unfolding plainly
+alone =
+    let b = fresh-run bounded 1 (replicate 8 1) refl refl refl refl in
+    let u = fresh-run unbounded 1 (replicate 8 1) refl refl refl refl in
+    ((ap (λ (r : Ran). r .entries) b, ap (λ (r : Ran). r .table .x) b), (ap (λ (r : Ran). r .entries) u, ap (λ (r : Ran). r .table .x) u))
 
 two-seen : cases.twoSeen
 unfolding steps
@@ -102,10 +110,22 @@ read-off algorithm a =
     rw (a .first, a .later, a .whole) (refl, refl, refl, refl, refl, a .enters, refl, refl, refl, a .enters-in-all, refl, refl)
 
 lower-first : onBoth cases.lowerFirst
-unfolding runs
+unfolding plainly runs
 lower-first = (
-  read-off unbounded (record { first = refl; later = refl; whole = refl; enters = refl; enters-in-all = refl }),
-  read-off bounded (record { first = refl; later = refl; whole = refl; enters = refl; enters-in-all = refl }),
+  read-off unbounded (record {
+    first = fresh-run unbounded 2 alternating refl refl refl refl;
+    later = refl;
+    whole = fresh-run unbounded 2 (alternating ++ threeOnes) refl refl refl refl;
+    enters = refl;
+    enters-in-all = fresh-entries unbounded 2 (alternating ++ threeOnes) refl refl refl refl;
+  }),
+  read-off bounded (record {
+    first = fresh-run bounded 2 alternating refl refl refl refl;
+    later = refl;
+    whole = fresh-run bounded 2 (alternating ++ threeOnes) refl refl refl refl;
+    enters = refl;
+    enters-in-all = fresh-entries bounded 2 (alternating ++ threeOnes) refl refl refl refl;
+  }),
 )
 
 -- process 1 holds token 0, and process 2 waits for it
@@ -114,8 +134,8 @@ zeroHeld = pair bounded (pos 2) (row 6 2 (pos 0)) (row 7 1 (pos 1))
 
 zero-held : ran (freshTable bounded 2) (replicate 28 1 ++ replicate 8 2)
     ≡ record { table = zeroHeld; moved = 35; waited = 1; entries = 2; waiting = 2; place = 36; stop = noRefusal }
-unfolding runs
-zero-held = refl
+unfolding plainly
+zero-held = fresh-run bounded 2 (replicate 28 1 ++ replicate 8 2) refl refl refl refl
 
 second-waits : stepWaits zeroHeld 2
 unfolding steps

@@ -6,14 +6,14 @@ use mathlib.Core.Logic.{⊎-elim, inl, inr}
 use native.Mathlib.Omega.{arith}
 use borrow.Author.Tests.{leb-true, eq-eqb}
 use lib.IntN.{ℤ, pos, negsuc, natAbs}
-use Rattle.table.specs.Tests.{withinℤ}
-use Rattle.table.specs.Numbers.{bounded, none, isNone, limitOf}
-use Rattle.table.specs.Rules.{rowOf}
+use Rattle.fields.specs.Tests.{withinℤ}
+use Rattle.fields.specs.Numbers.{bounded, none, isNone, limitOf}
+use Rattle.table.specs.WellFormed.{rowOf}
 use Rattle.table.specs.Fresh.{freshTable}
 use Rattle.table.specs.declared.Table.{Table}
-use Rattle.table.proofs.Tests.{and-halves}
+use Rattle.fields.proofs.Tests.{and-halves}
 use Rattle.table.proofs.WellFormed.{table-rules, token-range}
-use Rattle.machine.specs.Run.{courseOf}
+use Rattle.runs.specs.Run.{courseOf}
 use Rattle.theory.proofs.Counting.{Process}
 use Rattle.theory.proofs.Tokens.{held, modulus, ahead}
 use Rattle.theory.proofs.Remainders.{either-ahead}

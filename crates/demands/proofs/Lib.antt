@@ -1,3 +1,4 @@
+pub mod Computed
 pub mod Bench
 pub mod RoundTrips
 pub mod Views

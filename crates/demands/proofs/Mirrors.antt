@@ -7,15 +7,15 @@ use mathlib.Core.List.{List, [], _∷_}
 use native.Mathlib.Omega.{arith}
 use borrow.Author.Tests.{eqb-true}
 use lib.Dec.{eqb}
-use Rattle.table.specs.Numbers.{bounded}
-use Rattle.table.specs.Refusals.{noRefusal}
-use Rattle.table.specs.Rules.{countOk}
+use Rattle.fields.specs.Numbers.{bounded}
+use Rattle.fields.specs.Refusals.{noRefusal}
+use Rattle.fields.specs.Rules.{countOk}
 use Rattle.table.specs.Fresh.{freshTable}
 use Rattle.table.specs.declared.Table.{Table}
-use Rattle.table.proofs.Tests.{by-test}
+use Rattle.fields.proofs.Tests.{by-test}
 use Rattle.machine.specs.Step.{stepOf}
-use Rattle.machine.specs.Run.{Course, courseOf}
 use Rattle.machine.proofs.Steps.{step-process}
+use Rattle.runs.specs.Run.{Course, courseOf}
 use Rattle.theory.proofs.Counting.{Process}
 use Rattle.theory.proofs.Tokens.{unboundedMachine}
 use Rattle.theory.proofs.Model.{State, fresh, moves, step}

@@ -7,10 +7,10 @@ use borrow.Author.Tests.{eqb-true}
 use lib.Dec.{leb, eqb}
 use lib.IntN.{ℤ, pos, negsuc}
 use lib.Signed.{leZ}
-use Rattle.table.specs.Tests.{within, withinℤ}
-use Rattle.table.specs.Numbers.{none, isNone}
-use Rattle.table.specs.Rules.{lineOk, tokenOk, pivotOk, cellOk}
-use Rattle.table.proofs.Tests.{up-to-next, by-test, and-halves, within-low, within-high}
+use Rattle.fields.specs.Tests.{within, withinℤ}
+use Rattle.fields.specs.Numbers.{none, isNone}
+use Rattle.fields.specs.Rules.{lineOk, tokenOk, pivotOk, cellOk}
+use Rattle.fields.proofs.Tests.{up-to-next, by-test, and-halves, within-low, within-high}
 use Rattle.table.proofs.WellFormed.{is-none}
 
 -- what holds of each of the ten lines holds of a line that is 1 to 10

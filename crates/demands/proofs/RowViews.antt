@@ -8,16 +8,18 @@ use borrow.Author.Tests.{lt-leb, leb-true, eq-eqb, eqb-true}
 use lib.Dec.{leb, eqb, eqb·suc-zero}
 use lib.IntN.{ℤ, pos, negsuc}
 use lib.ListN.{length}
-use Rattle.table.specs.Tests.{within, withinℤ}
-use Rattle.table.specs.Numbers.{slots, none, isNone, topOf}
-use Rattle.table.specs.Refusals.{noRefusal}
-use Rattle.table.specs.Rules.{indexOk, choosingOk, tokenOk, pivotOk, mayHold, cellOk, cellRule}
+use Rattle.fields.specs.Tests.{within, withinℤ}
+use Rattle.fields.specs.Numbers.{slots, none, isNone, topOf}
+use Rattle.fields.specs.Refusals.{noRefusal}
+use Rattle.fields.specs.Rules.{indexOk, choosingOk, tokenOk, pivotOk, mayHold, cellOk}
+use Rattle.table.specs.WellFormed.{cellRule}
 use Rattle.table.specs.declared.Row.{Row}
-use Rattle.table.proofs.Tests.{by-test, and-halves, within-low, within-high}
+use Rattle.fields.proofs.Tests.{by-test, and-halves, within-low, within-high}
 use Rattle.table.proofs.WellFormed.{RowRules, is-none}
-use Rattle.machine.specs.Tokens.{nextToken, goesBefore}
+use Rattle.tokens.specs.Tokens.{nextToken, goesBefore}
+use Rattle.tokens.specs.Answers.{isAboveLimit}
 use Rattle.machine.specs.Setters.{withLine, withIndex, withChoosing, withCell}
-use Rattle.machine.specs.Step.{waits, nextOther, goesOn, isAboveLimit, passes, lineStep, advanceOf}
+use Rattle.machine.specs.Step.{waits, nextOther, goesOn, passes, lineStep, advanceOf}
 use Rattle.machine.specs.Step.{line1, line2, line3, line4, line5, line6, line7, line8, line9, line10}
 use Rattle.machine.specs.Step as machine
 use Rattle.machine.specs.declared.Seen.{Seen}

@@ -8,20 +8,21 @@ use borrow.Author.Tests.{eqb-true}
 use lib.Dec.{eqb}
 use lib.ListN.{length, take}
 use lib.Seq.{take-length}
-use Rattle.table.specs.Tests.{within}
-use Rattle.table.specs.Numbers.{slots, unbounded, bounded}
-use Rattle.table.specs.Refusals.{noRefusal}
-use Rattle.table.specs.Rules.{rowOf, countOk}
+use Rattle.fields.specs.Tests.{within}
+use Rattle.fields.specs.Numbers.{slots, unbounded, bounded}
+use Rattle.fields.specs.Refusals.{noRefusal}
+use Rattle.fields.specs.Rules.{countOk}
+use Rattle.table.specs.WellFormed.{rowOf}
 use Rattle.table.specs.Fresh.{freshTable}
 use Rattle.table.specs.declared.Table.{Table}
-use Rattle.table.proofs.Tests.{by-test, and-both, many-same}
+use Rattle.fields.proofs.Tests.{by-test, and-both, many-same}
 use Rattle.machine.specs.Step.{stepOf}
-use Rattle.machine.specs.Run.{Course, turnOf, begunBy, courseOf, movedIn, waitedIn, entriesIn, enteredIn, isWaiting, waitingOf, answerOf}
-use Rattle.machine.specs.Run.{runRefusal, runOf, bufferOf}
-use Rattle.machine.specs.declared.Ran.{Ran}
 use Rattle.machine.proofs.Steps.{step-process}
-use Rattle.machine.proofs.Courses.{course-first, all-taken}
-use Rattle.machine.proofs.Runs.{run-not-refused, run-answer, run-buffer}
+use Rattle.runs.specs.Run.{Course, turnOf, begunBy, courseOf, movedIn, waitedIn, entriesIn, enteredIn, isWaiting, waitingOf, answerOf}
+use Rattle.runs.specs.Run.{runRefusal, runOf, bufferOf}
+use Rattle.runs.specs.declared.Ran.{Ran}
+use Rattle.runs.proofs.Courses.{course-first, all-taken}
+use Rattle.runs.proofs.Runs.{run-not-refused, run-answer, run-buffer}
 use Rattle.theory.proofs.Theorems.{mutual-exclusion}
 use Rattle.demands.specs.Agreement.{meets}
 use Rattle.demands.specs.SideBySide.{Demand3, takenIn, UntilRefused, SameCounts, Alike, Piece, RunsMeet, InRuns}

@@ -5,14 +5,14 @@ use mathlib.Core.Bool.{Bool, true, false, cond, not}
 use native.Mathlib.Omega.{arith}
 use borrow.Author.Tests.{eqb-true}
 use lib.Dec.{eqb}
-use Rattle.table.specs.Numbers.{slots, bounded}
-use Rattle.table.specs.Refusals.{noRefusal}
-use Rattle.table.specs.Rules.{rowOf, wellFormed}
+use Rattle.fields.specs.Numbers.{slots, bounded}
+use Rattle.fields.specs.Refusals.{noRefusal}
+use Rattle.table.specs.WellFormed.{rowOf, wellFormed}
 use Rattle.table.specs.Fresh.{freshRow}
 use Rattle.table.specs.Sized.{Sized}
 use Rattle.table.specs.declared.Row.{Row}
 use Rattle.table.specs.declared.Table.{Table}
-use Rattle.table.proofs.Tests.{by-test, within-yes}
+use Rattle.fields.proofs.Tests.{by-test, within-yes}
 use Rattle.table.proofs.WellFormed.{table-rules}
 use Rattle.machine.specs.Step.{passes, line2, line4, line5, line6, line7, advanceOf, seenOf, putBack, takenOf, stepOf}
 use Rattle.machine.specs.declared.Seen.{Seen}

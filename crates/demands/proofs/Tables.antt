@@ -3,8 +3,9 @@ use Prim.Native.Nat.{ℕ, _≤_}
 use mathlib.Core.Path.{_≡_, refl, _∙_}
 use mathlib.Core.Bool.{true}
 use native.Mathlib.Omega.{arith}
-use Rattle.table.specs.Numbers.{slots}
-use Rattle.table.specs.Rules.{algorithmOk, countOk, wellFormed}
+use Rattle.fields.specs.Numbers.{slots}
+use Rattle.fields.specs.Rules.{algorithmOk, countOk}
+use Rattle.table.specs.WellFormed.{wellFormed}
 use Rattle.table.specs.Fresh.{freshTable}
 use Rattle.table.specs.Sized.{Sized}
 use Rattle.table.specs.declared.Table.{Table}

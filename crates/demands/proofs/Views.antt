@@ -6,7 +6,7 @@ use mathlib.Core.List.{List}
 use lib.Dec.{eqb}
 use lib.IntN.{ℤ, pos, negsuc}
 use lib.ListN.{getD}
-use Rattle.table.specs.Numbers.{unbounded, none}
+use Rattle.fields.specs.Numbers.{unbounded, none}
 use Rattle.table.specs.Fresh.{freshRow}
 use Rattle.table.specs.declared.Row.{Row}
 use Rattle.table.specs.declared.Table.{Table}

@@ -3,9 +3,9 @@ use Prim.Native.Nat.{ℕ, _%_}
 use mathlib.Core.Bool.{Bool, _&&_}
 use lib.Dec.{leb, eqb}
 use lib.IntN.{ℤ, pos, negsuc}
-use Rattle.table.specs.Tests.{within, every, howMany, eqℤ}
-use Rattle.table.specs.Numbers.{slots, none, modulusOf}
-use Rattle.table.specs.Rules.{rowOf, cellOf}
+use Rattle.fields.specs.Tests.{within, every, howMany, eqℤ}
+use Rattle.fields.specs.Numbers.{slots, none, modulusOf}
+use Rattle.table.specs.WellFormed.{rowOf, cellOf}
 use Rattle.table.specs.declared.Row.{Row}
 use Rattle.table.specs.declared.Table.{Table}
 

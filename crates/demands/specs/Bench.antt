@@ -6,17 +6,18 @@ use mathlib.Core.Bool.{true, false}
 use mathlib.Core.List.{List, [], _∷_, _++_, flatten}
 use lib.IntN.{ℤ, pos}
 use lib.ListN.{length, replicate}
-use Rattle.table.specs.Numbers.{slots, unbounded, bounded, none, tokenLimit}
-use Rattle.table.specs.Refusals.{noRefusal, badProcessNumber, aboveTokenLimit}
-use Rattle.table.specs.Rules.{rowOf, countOk}
+use Rattle.fields.specs.Numbers.{slots, unbounded, bounded, none, tokenLimit}
+use Rattle.fields.specs.Refusals.{noRefusal, badProcessNumber, aboveTokenLimit}
+use Rattle.fields.specs.Rules.{countOk}
+use Rattle.table.specs.WellFormed.{rowOf}
 use Rattle.table.specs.Fresh.{allNone, freshRow, freshTable}
 use Rattle.table.specs.Lent.{inFront}
 use Rattle.table.specs.declared.Table.{Table}
-use Rattle.machine.specs.Tokens.{nextToken, goesBefore}
+use Rattle.tokens.specs.Tokens.{nextToken, goesBefore}
 use Rattle.machine.specs.Setters.{withLine, withChoosing, withPivot, withCells}
 use Rattle.machine.specs.Step.{refusedStep, stepOf}
-use Rattle.machine.specs.Run.{runOf, bufferOf}
-use Rattle.machine.specs.declared.Ran.{Ran}
+use Rattle.runs.specs.Run.{runOf, bufferOf}
+use Rattle.runs.specs.declared.Ran.{Ran}
 
 -- The words that the cases are written in.
 

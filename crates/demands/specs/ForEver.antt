@@ -5,14 +5,15 @@ use mathlib.Core.Bool.{true, false}
 use mathlib.Core.Logic.{_⊎_}
 use mathlib.Core.List.{List}
 use lib.IntN.{_-ℤ_}
-use Rattle.table.specs.Numbers.{bounded, isNone, modulusOf}
-use Rattle.table.specs.Refusals.{noRefusal}
-use Rattle.table.specs.Rules.{rowOf, countOk}
+use Rattle.fields.specs.Numbers.{bounded, isNone, modulusOf}
+use Rattle.fields.specs.Refusals.{noRefusal}
+use Rattle.fields.specs.Rules.{countOk}
+use Rattle.table.specs.WellFormed.{rowOf}
 use Rattle.table.specs.Fresh.{freshTable}
 use Rattle.table.specs.declared.Table.{Table}
-use Rattle.machine.specs.Tokens.{remainder}
+use Rattle.tokens.specs.Tokens.{remainder}
 use Rattle.machine.specs.Step.{stepOf}
-use Rattle.machine.specs.Run.{courseOf}
+use Rattle.runs.specs.Run.{courseOf}
 use Rattle.demands.specs.Agreement.{atMostOne}
 
 -- process i of n holds a token

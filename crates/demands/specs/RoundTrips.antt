@@ -6,14 +6,14 @@ use mathlib.Core.Bool.{true}
 use mathlib.Core.List.{List}
 use mathlib.Core.Logic.{_↔_}
 use lib.ListN.{length, getD, take}
-use Rattle.table.specs.Refusals.{noRefusal}
-use Rattle.table.specs.Rules.{wellFormed}
+use Rattle.fields.specs.Refusals.{noRefusal}
+use Rattle.table.specs.WellFormed.{wellFormed}
 use Rattle.table.specs.Sized.{Sized}
 use Rattle.table.specs.Lent.{inFront}
 use Rattle.table.specs.declared.Table.{Table}
-use Rattle.stored.specs.Form.{encode, formLength}
-use Rattle.stored.specs.Writing.{writeOf, bufferOf}
-use Rattle.stored.specs.Reading.{readOf}
+use Rattle.writer.specs.Form.{encode, formLength}
+use Rattle.writer.specs.Writing.{writeOf, bufferOf}
+use Rattle.reader.specs.Reading.{readOf}
 
 -- each element is a byte
 abbrev pub Bytes : List ℕ → Type 0

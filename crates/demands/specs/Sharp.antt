@@ -5,13 +5,13 @@ use mathlib.Core.Path.{_≡_}
 use mathlib.Core.Bool.{false}
 use mathlib.Core.List.{List, [], _∷_, _++_, flatten}
 use lib.ListN.{replicate}
-use Rattle.table.specs.Tests.{within, howMany}
-use Rattle.table.specs.Numbers.{slots, unbounded, bounded}
-use Rattle.table.specs.Refusals.{noRefusal}
-use Rattle.table.specs.Rules.{rowOf}
+use Rattle.fields.specs.Tests.{within, howMany}
+use Rattle.fields.specs.Numbers.{slots, unbounded, bounded}
+use Rattle.fields.specs.Refusals.{noRefusal}
+use Rattle.table.specs.WellFormed.{rowOf}
 use Rattle.table.specs.Fresh.{freshTable}
 use Rattle.table.specs.declared.Table.{Table}
-use Rattle.machine.specs.Run.{courseOf}
+use Rattle.runs.specs.Run.{courseOf}
 use Rattle.demands.specs.Agreement.{isRemainder, meets}
 use Rattle.demands.specs.ForEver.{Holds, aheadOf}
 
@@ -35,15 +35,21 @@ NotModuloOneLess =
     isRemainder 2 (rowOf (after unbounded 2 secondToken) 1 .token) (rowOf (after bounded 2 secondToken) 1 .token) ≡ false
 
 -- Not lines 7 to 10: after seven bytes each, both of two processes stand at line 7.
+abbrev pub sevenEach : List ℕ
+sevenEach = flatten (replicate 7 (1 ∷ 2 ∷ []))
+
 abbrev pub TwoAtLine7 : Type 0
 TwoAtLine7 =
-    let t = after bounded 2 (flatten (replicate 7 (1 ∷ 2 ∷ []))) in
+    let t = after bounded 2 sevenEach in
     howMany (λ i. within 7 10 (rowOf t i .line)) slots ≡ 2
 
 -- Not n - 2: three processes hold the tokens 1, 2 and 3, modulo 5. The first and the last are not within 1 of each other, and from none of
 -- the three on are all at most 1 ahead.
+abbrev pub sixEach : List ℕ
+sixEach = replicate 6 1 ++ replicate 6 2 ++ replicate 6 3
+
 abbrev pub threeTokens : Table
-threeTokens = after bounded 3 (replicate 6 1 ++ replicate 6 2 ++ replicate 6 3)
+threeTokens = after bounded 3 sixEach
 
 abbrev pub farApart : Table → Type 0
 farApart t =

@@ -7,13 +7,13 @@ use mathlib.Core.Path.{_≡_}
 use mathlib.Core.Bool.{true}
 use mathlib.Core.List.{List, [], _∷_}
 use lib.ListN.{length, take}
-use Rattle.table.specs.Numbers.{unbounded, bounded}
-use Rattle.table.specs.Refusals.{noRefusal}
-use Rattle.table.specs.Rules.{countOk}
+use Rattle.fields.specs.Numbers.{unbounded, bounded}
+use Rattle.fields.specs.Refusals.{noRefusal}
+use Rattle.fields.specs.Rules.{countOk}
 use Rattle.table.specs.Fresh.{freshTable}
 use Rattle.table.specs.declared.Table.{Table}
-use Rattle.machine.specs.Run.{Course, courseOf, enteredIn, answerOf, runOf, bufferOf}
-use Rattle.machine.specs.declared.Ran.{Ran}
+use Rattle.runs.specs.Run.{Course, courseOf, enteredIn, answerOf, runOf, bufferOf}
+use Rattle.runs.specs.declared.Ran.{Ran}
 use Rattle.demands.specs.Agreement.{meets}
 
 -- Said of every schedule that the unbounded machine accepts, so after every byte of one.

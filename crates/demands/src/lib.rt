@@ -1,1 +1,1 @@
-// No code that runs: what is promised of the definitions of `table`, `machine` and `stored`, stated in specs/ and proved in proofs/.
+// No code that runs: what is promised of the definitions of `table`, `machine`, `writer` and `reader`, stated in specs/, proved in proofs/.

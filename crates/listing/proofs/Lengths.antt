@@ -7,14 +7,14 @@ use native.Mathlib.Omega.{arith}
 use lib.Dec.{eqb}
 use lib.ListN.{length, length-append}
 use borrow.Author.Tests.{eqb-true}
-use Rattle.table.specs.Numbers.{slots}
-use Rattle.table.specs.Refusals.{noRefusal}
+use Rattle.fields.specs.Numbers.{slots}
+use Rattle.fields.specs.Refusals.{noRefusal}
 use Rattle.table.specs.declared.Table.{Table}
-use Rattle.table.proofs.Tests.{by-test}
+use Rattle.fields.proofs.Tests.{by-test}
 use Rattle.machine.specs.Step.{stepOf}
-use Rattle.machine.specs.Run.{Turn, Course, turnOf, those, courseOf, isEntry, enteredIn}
-use Rattle.machine.specs.declared.Ran.{Ran}
 use Rattle.machine.proofs.Steps.{step-machine, step-process}
+use Rattle.runs.specs.Run.{Turn, Course, turnOf, those, courseOf, isEntry, enteredIn}
+use Rattle.runs.specs.declared.Ran.{Ran}
 use Rattle.listing.specs.Text.{ascii, decimal, numbered, lineFeed, numberedLine}
 use Rattle.listing.specs.Listing.{refusedLine, bakeryLine, entryLine, entryLines, countsLine}
 use Rattle.listing.specs.Room.{entryRoom}

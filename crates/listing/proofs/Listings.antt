@@ -4,11 +4,11 @@ use mathlib.Core.Path.{_≡_}
 use mathlib.Core.List.{List}
 use borrow.Author.Tests.{le-leb, lt-leb, eq-eqb, ne-eqb}
 use lib.ListN.{length}
-use Rattle.table.specs.Numbers.{scheduleLimit}
-use Rattle.table.specs.Refusals.{noRefusal, scheduleTooLong, formTooShort}
+use Rattle.fields.specs.Numbers.{scheduleLimit}
+use Rattle.fields.specs.Refusals.{noRefusal, scheduleTooLong, formTooShort}
 use Rattle.table.specs.Fresh.{freshOf}
 use Rattle.table.specs.declared.Started.{Started}
-use Rattle.machine.specs.Run.{courseOf}
+use Rattle.runs.specs.Run.{courseOf}
 use Rattle.listing.specs.Listing.{algorithmIn, countIn, scheduleIn, listerRefusal, refusedLine, report, listingOf}
 
 module _ (input : List ℕ) where

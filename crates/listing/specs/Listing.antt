@@ -4,12 +4,12 @@ use mathlib.Core.Bool.{cond}
 use mathlib.Core.List.{List, [], _∷_, _++_}
 use lib.Dec.{leb, eqb}
 use lib.ListN.{length, getD, drop}
-use Rattle.table.specs.Numbers.{scheduleLimit}
-use Rattle.table.specs.Refusals.{noRefusal, scheduleTooLong, formTooShort}
+use Rattle.fields.specs.Numbers.{scheduleLimit}
+use Rattle.fields.specs.Refusals.{noRefusal, scheduleTooLong, formTooShort}
 use Rattle.table.specs.Fresh.{freshOf}
 use Rattle.table.specs.declared.Table.{Table}
-use Rattle.machine.specs.Run.{Course, courseOf, enteredIn, answerOf}
-use Rattle.machine.specs.declared.Ran.{Ran}
+use Rattle.runs.specs.Run.{Course, courseOf, enteredIn, answerOf}
+use Rattle.runs.specs.declared.Ran.{Ran}
 use Rattle.listing.specs.Text.{numbered, numberedLine}
 
 -- "algorithm byte, n byte, schedule"

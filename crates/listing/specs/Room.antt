@@ -1,6 +1,6 @@
 -- Room for the longest text, which the private functions ask to be left: a line for each byte of the schedule, and the first and last line.
 use Prim.Native.Nat.{ℕ, _+_, _*_}
-use Rattle.table.specs.Numbers.{scheduleLimit}
+use Rattle.fields.specs.Numbers.{scheduleLimit}
 
 -- a line of an entry: a word of six bytes, the three digits of a byte at most, and the line feed
 abbrev pub entryRoom : ℕ

@@ -6,7 +6,7 @@ use native.Mathlib.Omega.{arith}
 use borrow.Author.Tests.{eqb-true}
 use lib.Dec.{eqb}
 use Rattle.table.specs.declared.Row.{Row}
-use Rattle.table.proofs.Tests.{by-test}
+use Rattle.fields.proofs.Tests.{by-test}
 use Rattle.machine.specs.Step.{waits, line1, line2, line3, line4, line5, line6, line7, line8, line9, line10, lineStep, advanceOf}
 use Rattle.machine.specs.declared.Seen.{Seen}
 use Rattle.machine.specs.declared.Advanced.{Advanced}

@@ -10,21 +10,23 @@ use lib.IntN.{ℤ, pos}
 use lib.Signed.{leZ}
 use lib.ListN.{length, length-set, length-replicate, getD-replicate}
 use lib.Seq.{getD-set-same, getD-set-other}
-use Rattle.table.specs.Tests.{within, withinℤ}
-use Rattle.table.specs.Numbers.{slots, none, isNone, limitOf, topOf}
-use Rattle.table.specs.Rules.{cellOf, xOk, lineOk, indexOk, choosingOk, tokenOk, pivotOk, mayHold, cellOk, cellRule}
-use Rattle.table.specs.Refusals.{noRefusal, aboveTokenLimit}
+use Rattle.fields.specs.Tests.{within, withinℤ}
+use Rattle.fields.specs.Numbers.{slots, none, isNone, limitOf, topOf}
+use Rattle.fields.specs.Rules.{xOk, lineOk, indexOk, choosingOk, tokenOk, pivotOk, mayHold, cellOk}
+use Rattle.table.specs.WellFormed.{cellOf, cellRule}
+use Rattle.fields.specs.Refusals.{noRefusal, aboveTokenLimit}
 use Rattle.table.specs.declared.Row.{Row}
-use Rattle.table.proofs.Tests.{by-test, and-both, and-halves, within-low, within-high, within-yes}
+use Rattle.fields.proofs.Tests.{by-test, and-both, and-halves, within-low, within-high, within-yes}
 use Rattle.table.proofs.WellFormed.{RowRules, is-none}
-use Rattle.machine.specs.Tokens.{nextToken}
+use Rattle.tokens.specs.Tokens.{nextToken}
+use Rattle.tokens.specs.Answers.{isAboveLimit}
+use Rattle.tokens.proofs.NextToken.{next-token-ok}
 use Rattle.machine.specs.Setters.{withLine, withIndex, withChoosing, withCell}
 use Rattle.machine.specs.Step.{moves, refuses}
-use Rattle.machine.specs.Step.{nextOther, goesOn, isAboveLimit, passes, advanceOf}
+use Rattle.machine.specs.Step.{nextOther, goesOn, passes, advanceOf}
 use Rattle.machine.specs.Step.{line1, line2, line3, line4, line5, line6, line7, line8, line9, line10}
 use Rattle.machine.specs.declared.Seen.{Seen}
 use Rattle.machine.specs.declared.Advanced.{Advanced}
-use Rattle.machine.proofs.NextToken.{next-token-ok}
 use Rattle.machine.proofs.ByLine.{by-line}
 
 -- What the step of row i sees: a token that the rules allow, where the index names a process, and its own where it names i; and X.

@@ -1,13 +1,5 @@
-pub mod Signed
-pub mod Remainder
-pub mod Lists
-pub mod NextToken
 pub mod ByLine
 pub mod Keeps
 pub mod Marks
 pub mod Ready
 pub mod Steps
-pub mod Counts
-pub mod Courses
-pub mod Going
-pub mod Runs

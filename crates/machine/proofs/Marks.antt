@@ -5,12 +5,13 @@ use mathlib.Core.Logic.{_⊎_, inl, inr}
 use native.Mathlib.Omega.{arith}
 use lib.Dec.{leb, eqb}
 use lib.IntN.{ℤ}
-use Rattle.table.specs.Refusals.{noRefusal, aboveTokenLimit}
+use Rattle.fields.specs.Refusals.{noRefusal, aboveTokenLimit}
 use Rattle.table.specs.declared.Row.{Row}
-use Rattle.table.proofs.Tests.{by-test}
-use Rattle.machine.specs.Tokens.{nextToken}
+use Rattle.fields.proofs.Tests.{by-test}
+use Rattle.tokens.specs.Tokens.{nextToken}
+use Rattle.tokens.specs.Answers.{isAboveLimit}
 use Rattle.machine.specs.Setters.{withChoosing}
-use Rattle.machine.specs.Step.{moves, refuses, nextOther, goesOn, isAboveLimit, passes, advanceOf}
+use Rattle.machine.specs.Step.{moves, refuses, nextOther, goesOn, passes, advanceOf}
 use Rattle.machine.specs.Step.{line2, line4, line5, line6, line7}
 use Rattle.machine.specs.declared.Seen.{Seen}
 use Rattle.machine.specs.declared.Advanced.{Advanced}

@@ -2,17 +2,18 @@
 use Prim.Native.Nat.{ℕ, _+_, _-_}
 use mathlib.Core.Bool.{Bool, cond, _&&_, _||_}
 use lib.Dec.{leb, eqb}
-use lib.IntN.{ℤ, pos}
-use lib.Signed.{ltZ}
+use lib.IntN.{ℤ}
 use lib.ListN.{set}
-use Rattle.table.specs.Tests.{within}
-use Rattle.table.specs.Numbers.{none, isNone, unbounded, tokenLimit}
-use Rattle.table.specs.Refusals.{noRefusal, notWellFormed, badProcessNumber, aboveTokenLimit}
-use Rattle.table.specs.Rules.{rowOf, wellFormed}
+use Rattle.fields.specs.Tests.{within}
+use Rattle.fields.specs.Numbers.{slots, none, isNone}
+use Rattle.fields.specs.Refusals.{noRefusal, notWellFormed, badProcessNumber, aboveTokenLimit}
+use Rattle.fields.specs.Rules.{countOk}
+use Rattle.table.specs.WellFormed.{rowOf, wellFormed}
 use Rattle.table.specs.Fresh.{allNone}
 use Rattle.table.specs.declared.Row.{Row}
 use Rattle.table.specs.declared.Table.{Table}
-use Rattle.machine.specs.Tokens.{nextToken, goesBefore}
+use Rattle.tokens.specs.Tokens.{nextToken, goesBefore}
+use Rattle.tokens.specs.Answers.{isAboveLimit}
 use Rattle.machine.specs.Setters.{withLine, withIndex, withChoosing, withToken, withPivot, withCell, withCells}
 use Rattle.machine.specs.declared.Seen.{Seen}
 use Rattle.machine.specs.declared.Advanced.{Advanced}
@@ -53,10 +54,6 @@ line2 n s r =
 -- 3: "pivot takes X; line 4."
 abbrev pub line3 : Seen → Row → Advanced
 line3 s r = moves (s .x) (withLine 4 (withPivot (s .x) r))
-
--- refusal 5: "line 4 of an unbounded row would give a token above 1,000,000"
-abbrev pub isAboveLimit : ℕ → ℤ → Bool
-isAboveLimit algorithm token = eqb algorithm unbounded && ltZ (pos tokenLimit) token
 
 -- "token takes" it; "pivot and read cells become -1; line 5"
 abbrev pub takesToken : ℤ → Row → Row
@@ -116,6 +113,14 @@ lineStep line algorithm n i s r =
 -- The step of process i of a machine, its row being r, where it sees s.
 unfoldable pub advanceOf : ℕ → ℕ → ℕ → Seen → Row → Advanced
 advanceOf algorithm n i s r = lineStep (r .line) algorithm n i s r
+
+-- a count, and an index, that a table may have
+abbrev pub isReady : ℕ → Row → Bool
+isReady n r = countOk n && leb (r .index) slots
+
+-- the answer of `advance`: a row that no table has is refused by 3
+unfoldable pub rowStepOf : ℕ → ℕ → ℕ → Seen → Row → Advanced
+rowStepOf algorithm n i s r = cond (isReady n r) (advanceOf algorithm n i s r) (refuses notWellFormed s r)
 
 -- What the step of row r sees: the choosing flag and the token of process j, j being its index, and X. At index 0 no line looks at the
 -- flag or the token.

@@ -1,25 +1,22 @@
-// The two machines of document 01, the unbounded (UB-Bakery) and the bounded (B-Bakery): one step, and a run over a schedule.
+// The two machines of document 01, the unbounded (UB-Bakery) and the bounded (B-Bakery): one step.
 mod lines;
-mod numbers;
-mod schedule;
-mod tokens;
 
-pub use schedule::run;
 ghost use mathlib.Core.Path.{_≡_};
 ghost use Prim.Native.Nat.{_≤_};
-ghost use Rattle.table.specs.Numbers.{slots};
-ghost use Rattle.table.specs.Rules.{rowOf};
+ghost use Rattle.fields.specs.Numbers.{slots};
+ghost use Rattle.table.specs.WellFormed.{rowOf};
 ghost use Rattle.machine.specs.Ready.{Ready};
-ghost use Rattle.machine.specs.Step.{refusedStep, takenOf, stepOf};
-use lines::advance;
-use numbers::place_of;
+ghost use Rattle.machine.specs.Step.{isReady, rowStepOf, refusedStep, takenOf, stepOf};
+use fields::MOST_PROCESSES;
+use fields::Value;
+use fields::refusal;
+use lines::any_line;
+use lines::kept;
 use table::Row;
 use table::Table;
-use table::Value;
-use table::refusal;
+use table::place_of;
 
-// What a step sees outside its own row: of the process at its index the choosing flag and the token, and X. It is public, as `Advanced` is,
-// since the definition of a step is over it.
+// What a step sees outside its own row: of the process at its index the choosing flag and the token, and X.
 pub struct Seen {
     pub choosing: u8,
     pub token: i32,
@@ -41,19 +38,8 @@ pub struct Stepped {
     pub stop: u8,
 }
 
-// The answer of `run`.
-pub struct Ran {
-    pub table: Table,
-    pub moved: usize,
-    pub waited: usize,
-    pub entries: usize,
-    pub waiting: usize,
-    pub place: usize,
-    pub stop: u8,
-}
-
 // What a step sees: X, and of the row at its index the choosing flag and the token.
-fn seen_of(x: Value, other: Row) -> Seen
+pub fn seen_of(x: Value, other: Row) -> Seen
     ensures { λ s. ⌜ s ≡ record { choosing = other .choosing; token = other .token; x = x .0 } ⌝ }
 {
     Seen {
@@ -61,6 +47,23 @@ fn seen_of(x: Value, other: Row) -> Seen
         token: other.token,
         x: x.0,
     }
+}
+
+// Whether n is a count, and the row's index one, that a table may have.
+fn is_ready(n: u8, r: Row) -> bool
+    ensures { λ b. ⌜ b ≡ isReady n r ⌝ }
+{
+    fields::count_ok(n) & (r.index <= MOST_PROCESSES)
+}
+
+// One step of process i, whose row is r and who sees s: what `step` does to a row of its table. Refusal 3 for a row that no table has.
+pub fn advance(algorithm: u8, n: u8, i: u8, s: Seen, r: Row) -> Advanced
+    ensures { λ a. ⌜ a ≡ rowStepOf algorithm n i s r ⌝ }
+{
+    if !is_ready(n, r) {
+        return kept(refusal::NOT_WELL_FORMED, s, r);
+    }
+    any_line(algorithm, n, i, s, r)
 }
 
 // A refusal gives the table back.
@@ -83,7 +86,7 @@ fn taken(t: Table, i: u8) -> Stepped
     let r = t.rows[k];
     let j = place_of(r.index);
     let other = t.rows[j];
-    let a = advance(t.algorithm, t.n, i, seen_of(Value(t.x), other), r);
+    let a = any_line(t.algorithm, t.n, i, seen_of(Value(t.x), other), r);
     let row = a.row;
     let mut after = t;
     after.rows[k] = row;
@@ -102,7 +105,7 @@ pub fn step(t: Table, process: u8) -> Stepped
     if !table::well_formed(t) {
         return refused(t, refusal::NOT_WELL_FORMED);
     }
-    if !table::number_within(1, t.n, process) {
+    if !fields::number_within(1, t.n, process) {
         return refused(t, refusal::BAD_PROCESS_NUMBER);
     }
     taken(t, process)

@@ -1,24 +1,21 @@
 // One step of a process, line by line: its own row and what it sees of the others go in, and what comes of them goes out.
 ghost use mathlib.Core.Path.{_≡_};
 ghost use Prim.Native.Nat.{ℕ, _≤_};
-ghost use Rattle.table.specs.Numbers.{slots};
-ghost use Rattle.machine.specs.Ready.{Count, Ready};
-ghost use Rattle.machine.specs.Tokens.{goesBefore};
+ghost use Rattle.fields.specs.Numbers.{slots};
+ghost use Rattle.tokens.specs.Count.{Count};
+ghost use Rattle.machine.specs.Ready.{Ready};
 ghost use Rattle.machine.specs.Setters.{withCell};
 ghost use Rattle.machine.specs.Step.{moves, refuses, nextOther, goesOn, takesToken, passes};
 ghost use Rattle.machine.specs.Step.{line1, line2, line3, line4, line5, line6, line7, line8};
 ghost use Rattle.machine.specs.Step.{line9, line10, advanceOf};
 use crate::Advanced;
 use crate::Seen;
-use crate::numbers::place_of;
-use crate::tokens::BToken;
-use crate::tokens::UbToken;
-use table::NONE;
+use fields::NONE;
+use fields::SLOTS;
+use fields::Value;
+use fields::refusal;
 use table::Row;
-use table::SLOTS;
-use table::UNBOUNDED;
-use table::Value;
-use table::refusal;
+use table::place_of;
 
 // The step changed the row.
 fn moved(s: Seen, r: Row) -> Advanced
@@ -33,7 +30,7 @@ fn moved(s: Seen, r: Row) -> Advanced
 }
 
 // The step changed nothing: it waits, or is refused.
-fn kept(stop: u8, s: Seen, r: Row) -> Advanced
+pub(crate) fn kept(stop: u8, s: Seen, r: Row) -> Advanced
     ensures { λ a. ⌜ a ≡ refuses stop s r ⌝ }
 {
     Advanced {
@@ -133,23 +130,17 @@ fn takes_token(token: Value, r: Row) -> Row
     w
 }
 
-// 4: token takes the next token; pivot and read cells become -1; line 5. Refusal 5 is found here.
+// 4: token takes the next token; pivot and read cells become -1; line 5. Where there is none, by refusal 5, so is this step refused.
 fn line_4(algorithm: u8, n: u8, s: Seen, r: Row) -> Advanced
     requires { ⌜ Count n ⌝ }
     ensures { λ a. ⌜ a ≡ line4 algorithm n s r ⌝ }
 {
-    let pivot = table::pivot_of(r);
     let cells = r.cells;
-    if algorithm == UNBOUNDED {
-        let most = UbToken::largest(UbToken::of(pivot), cells);
-        let next = most.next();
-        if UbToken::is_above_limit(next) {
-            return kept(refusal::ABOVE_TOKEN_LIMIT, s, r);
-        }
-        return moved(s, takes_token(UbToken::of_next(next).value(), r));
+    let next = tokens::next_token(algorithm, n, table::pivot_of(r), cells);
+    if next.stop != refusal::NO_REFUSAL {
+        return kept(next.stop, s, r);
     }
-    let next = BToken::next(n, BToken::of(pivot), cells);
-    moved(s, takes_token(next.value(), r))
+    moved(s, takes_token(Value(next.token), r))
 }
 
 // 5: choosing becomes 0; then on to the smallest number other than i.
@@ -194,20 +185,6 @@ fn token_seen(s: Seen) -> Value
     Value(s.token)
 }
 
-// Whether i goes before j, on the machine of the table.
-fn goes_before(algorithm: u8, n: u8, i: u8, s: Seen, r: Row) -> bool
-    requires { ⌜ Count n ⌝ }
-    ensures { λ b. ⌜ b ≡ goesBefore algorithm n i (r .token) (r .index) (s .token) ⌝ }
-{
-    let own = table::token_of(r);
-    let its = token_seen(s);
-    let j = r.index;
-    if algorithm == UNBOUNDED {
-        return UbToken::of(own).goes_before(i, UbToken::of(its), j);
-    }
-    BToken::of(own).goes_before(n, i, BToken::of(its), j)
-}
-
 // Whether token j is -1 or i goes before j.
 fn passes(algorithm: u8, n: u8, i: u8, s: Seen, r: Row) -> bool
     requires { ⌜ Count n ⌝ }
@@ -216,7 +193,7 @@ fn passes(algorithm: u8, n: u8, i: u8, s: Seen, r: Row) -> bool
     if token_seen(s).equals(Value(NONE)) {
         return true;
     }
-    goes_before(algorithm, n, i, s, r)
+    tokens::goes_before(algorithm, n, i, table::token_of(r), r.index, token_seen(s))
 }
 
 // 7, index j: if token j is -1 or i goes before j, on to the next larger number; else the step waits.
@@ -289,8 +266,8 @@ fn critical(s: Seen, r: Row) -> Advanced
     }
 }
 
-// One step of process i, whose row is r and who sees s.
-pub(crate) fn advance(algorithm: u8, n: u8, i: u8, s: Seen, r: Row) -> Advanced
+// Lines 1 to 10: one step of process i, whose row is r and who sees s.
+pub(crate) fn any_line(algorithm: u8, n: u8, i: u8, s: Seen, r: Row) -> Advanced
     requires { ⌜ Ready n r ⌝ }
     ensures { λ a. ⌜ a ≡ advanceOf algorithm n i s r ⌝ }
 {

@@ -12,8 +12,8 @@ use mir.Val.{Val}
 use denote.Array.{each}
 use denote.Shadow.{shadow}
 use denote.Struct.Declared as declared
-use Rattle.table.specs.Numbers.{slots}
-use Rattle.table.specs.Rules.{noRow}
+use Rattle.fields.specs.Numbers.{slots}
+use Rattle.table.specs.WellFormed.{noRow}
 use Rattle.table.specs.Sized.{Sized}
 use Rattle.table.specs.declared.Row.{Row}
 use Rattle.table.specs.declared.Table.{Table}

@@ -1,5 +1,3 @@
-pub mod Bits
-pub mod Tests
 pub mod Held
 pub mod WellFormed
 pub mod Writes

@@ -8,17 +8,19 @@ use lib.Dec.{leb, eqb}
 use lib.IntN.{ℤ, pos, negsuc}
 use lib.ListN.{length, getD, length-replicate, getD-replicate}
 use lib.Seq.{ext-getD}
-use Rattle.table.specs.Tests.{within, withinℤ}
-use Rattle.table.specs.Numbers.{slots, none, isNone, unbounded, limitOf, topOf}
-use Rattle.table.specs.Rules.{algorithmOk, countOk, xOk}
-use Rattle.table.specs.Rules.{rowOf, cellOf, noRow, lineOk, indexOk, choosingOk, tokenOk, pivotOk}
-use Rattle.table.specs.Rules.{mayHold, cellOk, cellRule, cellsOk, rowOk, rowRule, rowsOk, wellFormed}
+use Rattle.fields.specs.Tests.{within, withinℤ}
+use Rattle.fields.specs.Numbers.{slots, none, isNone, unbounded, limitOf, topOf}
+use Rattle.fields.specs.Rules.{algorithmOk, countOk, xOk}
+use Rattle.fields.specs.Rules.{lineOk, indexOk, choosingOk, tokenOk, pivotOk}
+use Rattle.table.specs.WellFormed.{rowOf, cellOf, noRow}
+use Rattle.fields.specs.Rules.{mayHold, cellOk}
+use Rattle.table.specs.WellFormed.{cellRule, cellsOk, rowOk, rowRule, rowsOk, wellFormed}
 use Rattle.table.specs.Fresh.{allNone, freshRow, freshTable, freshOf}
 use Rattle.table.specs.Sized.{Sized}
 use Rattle.table.specs.declared.Row.{Row}
 use Rattle.table.specs.declared.Table.{Table}
 use Rattle.table.specs.declared.Started.{Started}
-use Rattle.table.proofs.Tests.{by-test, and-both, and-halves, within-low, within-high, within-yes, every-at, every-all}
+use Rattle.fields.proofs.Tests.{by-test, and-both, and-halves, within-low, within-high, within-yes, every-at, every-all}
 
 -- the rules of row i, each by its name
 pub record RowRules (top : ℤ) (n i : ℕ) (r : Row) : Type 0 where

@@ -4,9 +4,9 @@ use mathlib.Core.Bool.{cond}
 use mathlib.Core.List.{List}
 use lib.IntN.{ℤ, pos}
 use lib.ListN.{replicate}
-use Rattle.table.specs.Numbers.{slots, none, unbounded}
-use Rattle.table.specs.Refusals.{noRefusal, badAlgorithm, badProcessCount}
-use Rattle.table.specs.Rules.{algorithmOk, countOk}
+use Rattle.fields.specs.Numbers.{slots, none, unbounded}
+use Rattle.fields.specs.Refusals.{noRefusal, badAlgorithm, badProcessCount}
+use Rattle.fields.specs.Rules.{algorithmOk, countOk}
 use Rattle.table.specs.declared.Row.{Row}
 use Rattle.table.specs.declared.Table.{Table}
 use Rattle.table.specs.declared.Started.{Started}

@@ -1,7 +1,4 @@
-pub mod Tests
-pub mod Numbers
-pub mod Refusals
-pub mod Rules
+pub mod WellFormed
 pub mod Fresh
 pub mod Sized
 pub mod Lent

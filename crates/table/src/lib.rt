@@ -1,74 +1,17 @@
-// The table of document 01: its rows, what each field may hold, and the fresh table.
+// The table of document 01: its rows, when it is well formed, and the fresh table.
 mod rules;
 
-pub use rules::Value;
-pub use rules::algorithm_ok;
-pub use rules::cell_ok;
-pub use rules::choosing_ok;
-pub use rules::count_ok;
-pub use rules::index_ok;
-pub use rules::limit_of;
-pub use rules::line_ok;
-pub use rules::may_hold;
-pub use rules::number_within;
 pub use rules::pivot_of;
-pub use rules::pivot_ok;
 pub use rules::token_of;
-pub use rules::token_ok;
 pub use rules::well_formed;
 pub use rules::x_of;
-pub use rules::x_ok;
 ghost use mathlib.Core.Path.{_≡_};
+ghost use Prim.Native.Nat.{_-_};
 ghost use Rattle.table.specs.Fresh.{freshTable, refusedFresh, freshOf};
-
-// The slots of a board: rows of a table, and read cells of a row.
-pub const SLOTS: usize = 16;
-
-// The largest process count: a process for each slot.
-pub const MOST_PROCESSES: u8 = SLOTS as u8;
-
-// No token, no pivot, nothing seen.
-pub const NONE: i32 = -1;
-
-// The two machines.
-pub const UNBOUNDED: u8 = 0;
-
-pub const BOUNDED: u8 = 1;
-
-// The largest token of the unbounded machine.
-pub const TOKEN_LIMIT: i32 = 1000000;
-
-// The longest schedule of one run.
-pub const SCHEDULE_LIMIT: usize = 60000;
-
-// The stop numbers: 0 for none, and document 01's "Numbered refusals".
-pub mod refusal {
-    pub const NO_REFUSAL: u8 = 0;
-
-    pub const BAD_ALGORITHM: u8 = 1;
-
-    pub const BAD_PROCESS_COUNT: u8 = 2;
-
-    pub const NOT_WELL_FORMED: u8 = 3;
-
-    pub const BAD_PROCESS_NUMBER: u8 = 4;
-
-    pub const ABOVE_TOKEN_LIMIT: u8 = 5;
-
-    pub const SCHEDULE_TOO_LONG: u8 = 6;
-
-    pub const ENTRIES_TOO_SHORT: u8 = 7;
-
-    pub const BUFFER_TOO_SHORT: u8 = 8;
-
-    pub const FORM_TOO_SHORT: u8 = 9;
-
-    pub const WRONG_KIND: u8 = 10;
-
-    pub const FORM_TOO_LONG: u8 = 11;
-
-    pub const BAD_FIELD: u8 = 12;
-}
+use fields::NONE;
+use fields::SLOTS;
+use fields::UNBOUNDED;
+use fields::refusal;
 
 pub struct Row {
     pub line: u8,
@@ -90,6 +33,16 @@ pub struct Table {
 pub struct Started {
     pub table: Table,
     pub stop: u8,
+}
+
+// The place of a process's row or read cell: process numbers start at 1.
+pub fn place_of(process: u8) -> usize
+    ensures { λ k. ⌜ k ≡ process - 1 ⌝ }
+{
+    if process < 1 {
+        return 0;
+    }
+    (process - 1) as usize
 }
 
 fn fresh_table(algorithm: u8, n: u8) -> Table
@@ -125,10 +78,10 @@ fn refused(stop: u8) -> Started
 pub fn fresh(algorithm: u8, n: u8) -> Started
     ensures { λ s. ⌜ s ≡ freshOf algorithm n ⌝ }
 {
-    if !algorithm_ok(algorithm) {
+    if !fields::algorithm_ok(algorithm) {
         return refused(refusal::BAD_ALGORITHM);
     }
-    if !count_ok(n) {
+    if !fields::count_ok(n) {
         return refused(refusal::BAD_PROCESS_COUNT);
     }
     Started {

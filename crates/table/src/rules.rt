@@ -1,162 +1,14 @@
-// When a table is well formed: a rule for each field, in the order of document 01's list, which the definitions quote.
+// When a table is well formed: the rules of the fields, over its rows and their read cells.
 ghost use mathlib.Core.Path.{_≡_};
 ghost use Prim.Native.Nat.{_+_, _<_};
 ghost use lib.IntN.{pos};
 ghost use lib.ListN.{getD};
-ghost use lib.Signed.{ltZ};
-ghost use Rattle.table.specs.Tests.{within, withinℤ, eqℤ};
-ghost use Rattle.table.specs.Numbers.{slots, isNone, topOf};
-ghost use Rattle.table.specs.Rules.{algorithmOk, countOk, xOk, lineOk, indexOk, choosingOk, tokenOk, pivotOk};
-ghost use Rattle.table.specs.Rules.{mayHold, cellOk, cellRule, cellsOk, rowOk, rowRule, rowsOk};
-ghost use Rattle.table.specs.Rules.{wellFormed};
-use crate::BOUNDED;
-use crate::MOST_PROCESSES;
-use crate::NONE;
+ghost use Rattle.fields.specs.Numbers.{slots};
+ghost use Rattle.table.specs.WellFormed.{cellRule, cellsOk, rowOk, rowRule, rowsOk, wellFormed};
 use crate::Row;
-use crate::SLOTS;
-use crate::TOKEN_LIMIT;
 use crate::Table;
-use crate::UNBOUNDED;
-
-// A number as a table holds it: X, a token, a pivot, a read cell, or the limit T of these. To a proof a signed number in a struct is a
-// whole number, while a signed local is its bits.
-pub struct Value(pub i32);
-
-impl Value {
-    // A number that is not below zero.
-    pub fn of_number(number: u16) -> Value
-        ensures { λ v. ⌜ v .0 ≡ pos number ⌝ }
-    {
-        Value(number as i32)
-    }
-
-    pub fn equals(self, other: Value) -> bool
-        ensures { λ b. ⌜ b ≡ eqℤ (self .0) (other .0) ⌝ }
-    {
-        self.0 == other.0
-    }
-
-    pub fn is_below(self, other: Value) -> bool
-        ensures { λ b. ⌜ b ≡ ltZ (self .0) (other .0) ⌝ }
-    {
-        self.0 < other.0
-    }
-
-    pub fn is_none(self) -> bool
-        ensures { λ b. ⌜ b ≡ isNone (self .0) ⌝ }
-    {
-        self.equals(Value(NONE))
-    }
-
-    fn is_within(self, low: Value, high: Value) -> bool
-        ensures { λ b. ⌜ b ≡ withinℤ (low .0) (high .0) (self .0) ⌝ }
-    {
-        (low.0 <= self.0) & (self.0 <= high.0)
-    }
-}
-
-// Whether x is low to high.
-pub fn number_within(low: u8, high: u8, x: u8) -> bool
-    ensures { λ b. ⌜ b ≡ within low high x ⌝ }
-{
-    (low <= x) & (x <= high)
-}
-
-// T, the largest token of a table.
-pub fn limit_of(algorithm: u8, n: u8) -> Value
-    ensures { λ v. ⌜ v .0 ≡ topOf algorithm n ⌝ }
-{
-    if algorithm == UNBOUNDED {
-        return Value(TOKEN_LIMIT);
-    }
-    if n < 1 {
-        return Value(0);
-    }
-    let others = (n - 1) as u16;
-    Value::of_number(2 * others)
-}
-
-pub fn algorithm_ok(algorithm: u8) -> bool
-    ensures { λ b. ⌜ b ≡ algorithmOk algorithm ⌝ }
-{
-    (algorithm == UNBOUNDED) | (algorithm == BOUNDED)
-}
-
-pub fn count_ok(n: u8) -> bool
-    ensures { λ b. ⌜ b ≡ countOk n ⌝ }
-{
-    number_within(1, MOST_PROCESSES, n)
-}
-
-pub fn x_ok(top: Value, x: Value) -> bool
-    ensures { λ b. ⌜ b ≡ xOk (top .0) (x .0) ⌝ }
-{
-    x.is_within(Value(0), top)
-}
-
-pub fn line_ok(n: u8, i: u8, line: u8) -> bool
-    ensures { λ b. ⌜ b ≡ lineOk n i line ⌝ }
-{
-    if i <= n {
-        return number_within(1, 10, line);
-    }
-    line == 1
-}
-
-pub fn index_ok(n: u8, i: u8, line: u8, index: u8) -> bool
-    ensures { λ b. ⌜ b ≡ indexOk n i line index ⌝ }
-{
-    if line == 2 {
-        return number_within(1, n, index);
-    }
-    if number_within(6, 7, line) {
-        return number_within(1, n, index) & (index != i);
-    }
-    index == 0
-}
-
-pub fn choosing_ok(line: u8, choosing: u8) -> bool
-    ensures { λ b. ⌜ b ≡ choosingOk line choosing ⌝ }
-{
-    if number_within(2, 5, line) {
-        return choosing == 1;
-    }
-    choosing == 0
-}
-
-pub fn token_ok(top: Value, line: u8, token: Value) -> bool
-    ensures { λ b. ⌜ b ≡ tokenOk (top .0) line (token .0) ⌝ }
-{
-    if number_within(1, 4, line) {
-        return token.is_none();
-    }
-    token.is_within(Value(0), top)
-}
-
-pub fn pivot_ok(top: Value, line: u8, pivot: Value) -> bool
-    ensures { λ b. ⌜ b ≡ pivotOk (top .0) line (pivot .0) ⌝ }
-{
-    if line == 4 {
-        return pivot.is_within(Value(0), top);
-    }
-    pivot.is_none()
-}
-
-// Whether read cell j of row i may hold a token.
-pub fn may_hold(n: u8, i: u8, line: u8, index: u8, j: u8) -> bool
-    ensures { λ b. ⌜ b ≡ mayHold n i line index j ⌝ }
-{
-    number_within(2, 4, line) & ((line != 2) | (j < index)) & (j != i) & (j <= n)
-}
-
-pub fn cell_ok(top: Value, may: bool, cell: Value) -> bool
-    ensures { λ b. ⌜ b ≡ cellOk (top .0) may (cell .0) ⌝ }
-{
-    if may {
-        return cell.is_within(Value(NONE), top);
-    }
-    cell.is_none()
-}
+use fields::SLOTS;
+use fields::Value;
 
 // X of a table, and the token of a row and its pivot.
 pub fn x_of(t: Table) -> Value
@@ -189,8 +41,8 @@ fn cell_at_ok(top: Value, n: u8, i: u8, r: Row, k: usize) -> bool
     requires { ⌜ k < slots ⌝ }
     ensures { λ b. ⌜ b ≡ cellRule (top .0) n i r (k + 1) ⌝ }
 {
-    let may = may_hold(n, i, r.line, r.index, (k as u8) + 1);
-    cell_ok(top, may, cell_at(r, k))
+    let may = fields::may_hold(n, i, r.line, r.index, (k as u8) + 1);
+    fields::cell_ok(top, may, cell_at(r, k))
 }
 
 fn cells_ok(top: Value, n: u8, i: u8, r: Row) -> bool
@@ -207,11 +59,11 @@ fn cells_ok(top: Value, n: u8, i: u8, r: Row) -> bool
 fn row_ok(top: Value, n: u8, i: u8, r: Row) -> bool
     ensures { λ b. ⌜ b ≡ rowOk (top .0) n i r ⌝ }
 {
-    line_ok(n, i, r.line)
-        & index_ok(n, i, r.line, r.index)
-        & choosing_ok(r.line, r.choosing)
-        & token_ok(top, r.line, token_of(r))
-        & pivot_ok(top, r.line, pivot_of(r))
+    fields::line_ok(n, i, r.line)
+        & fields::index_ok(n, i, r.line, r.index)
+        & fields::choosing_ok(r.line, r.choosing)
+        & fields::token_ok(top, r.line, token_of(r))
+        & fields::pivot_ok(top, r.line, pivot_of(r))
         & cells_ok(top, n, i, r)
 }
 
@@ -239,6 +91,9 @@ fn rows_ok(top: Value, t: Table) -> bool
 pub fn well_formed(t: Table) -> bool
     ensures { λ b. ⌜ b ≡ wellFormed t ⌝ }
 {
-    let top = limit_of(t.algorithm, t.n);
-    algorithm_ok(t.algorithm) & count_ok(t.n) & x_ok(top, x_of(t)) & rows_ok(top, t)
+    let top = fields::limit_of(t.algorithm, t.n);
+    fields::algorithm_ok(t.algorithm)
+        & fields::count_ok(t.n)
+        & fields::x_ok(top, x_of(t))
+        & rows_ok(top, t)
 }

@@ -6,7 +6,7 @@ use mathlib.Core.Logic.{_⊎_, inl, inr, ⊎-elim}
 use native.Mathlib.Nat.{mod-lt, mod-eq-of-lt, add-mul-mod-self-right, div-add-mod'}
 use native.Mathlib.Omega.{arith}
 use borrow.Author.Tests.{le-leb, lt-leb, lt-ltb, le-ltb, eq-eqb, ne-eqb}
-use Rattle.table.proofs.Tests.{within-yes}
+use Rattle.fields.proofs.Tests.{within-yes}
 use Rattle.theory.proofs.Counting.{Process, earlier, last, by-order, by-comparison, largest}
 use Rattle.theory.proofs.Tokens.{Token, held, number-of-held, modulus, reduced, shift, shifted, ahead}
 use Rattle.theory.proofs.Tokens.{nextUnbounded, nextBounded, beforeUnbounded, beforeBounded}

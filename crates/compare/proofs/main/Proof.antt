@@ -1,6 +1,6 @@
 -- `main` is safe. The loop's invariant: the totals are sound, and below 2^22 bytes for each n passed.
 use Prim.Native.Nat.{_+_, _*_, _-_, _^_, _≤_}
-use Rattle.table.specs.Numbers.{slots}
+use Rattle.fields.specs.Numbers.{slots}
 use Rattle.compare.specs.Tally.{Sound}
 use borrow.Author.Needs.{needs}
 use Rattle.compare.proofs.main.Statement.{statement}

@@ -4,15 +4,15 @@ use mathlib.Core.Path.{_≡_, sym, ap, _∙_}
 use mathlib.Core.List.{List}
 use lib.ListN.{length, take, drop, replicate, length-append, length-replicate}
 use lib.Seq.{take-at}
-use Rattle.table.specs.Numbers.{scheduleLimit}
-use Rattle.table.specs.Refusals.{noRefusal}
+use Rattle.fields.specs.Numbers.{scheduleLimit}
+use Rattle.fields.specs.Refusals.{noRefusal}
 use Rattle.table.proofs.WellFormed.{table-rules}
 use Rattle.table.specs.Lent.{inFront}
 use Rattle.table.proofs.Writes.{and-then}
-use Rattle.machine.specs.Run.{Course, courseOf, enteredIn, entriesIn, answerOf, runRefusal}
-use Rattle.machine.specs.declared.Ran.{Ran}
-use Rattle.machine.proofs.Counts.{entered-length}
-use Rattle.machine.proofs.Runs.{run-accepted, run-answer, run-buffer}
+use Rattle.runs.specs.Run.{Course, courseOf, enteredIn, entriesIn, answerOf, runRefusal}
+use Rattle.runs.specs.declared.Ran.{Ran}
+use Rattle.runs.proofs.Counts.{entered-length}
+use Rattle.runs.proofs.Runs.{run-accepted, run-answer, run-buffer}
 use Rattle.listing.specs.Listing.{entryLines, countsLine, report}
 use Rattle.listing.specs.Room.{entryRoom}
 use Rattle.listing.proofs.Lengths.{bakery-short, lines-short, counts-short}

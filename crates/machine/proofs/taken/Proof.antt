@@ -3,8 +3,8 @@ use Prim.Native.Nat.{_<_, _≤_}
 use mir.Facts.{toZ-ofZ}
 use mir.Syntax.{w32}
 use mir.Val.{SFits}
-use Rattle.table.specs.Numbers.{slots}
-use Rattle.table.specs.Rules.{rowOf}
+use Rattle.fields.specs.Numbers.{slots}
+use Rattle.table.specs.WellFormed.{rowOf}
 use Rattle.machine.specs.Step.{takenOf}
 use borrow.Author.Needs.{needs}
 use native.Mathlib.Omega.{arith}
@@ -39,8 +39,10 @@ element-copy-out-other c = other-slot c
 seen-of-requires : tie.Need-seen-of-requires
 seen-of-requires c κs = search needs
 
-advance-requires : tie.Need-advance-requires
-advance-requires c κs = rw (c .before .before .before .before .before .place-of .ensures) (c .before .before .before .before .before .before .pre .1)
+any-line-requires : tie.Need-any-line-requires
+any-line-requires c κs =
+    let own = c .before .before .before .before .before in
+    rw (own .place-of .ensures) (own .before .pre .1)
 
 mul-row : tie.Need-mul-row
 mul-row c = search needs
@@ -57,8 +59,15 @@ unfolding takenOf
 returns c =
     let a = c .before .before in
     let other = a .before .before .before .before in
-    let f : SFits w32 (a .advance .result .x) = search needs in
-    rw (toZ-ofZ f, a .advance .ensures, a .before .seen-of .ensures, toZ-ofZ (x-fits (other .before .before .before)), other .place-of2 .ensures, other .before .before .place-of .ensures)
+    let f : SFits w32 (a .any-line .result .x) = search needs in
+    rw (
+      toZ-ofZ f,
+      a .any-line .ensures,
+      a .before .seen-of .ensures,
+      toZ-ofZ (x-fits (other .before .before .before)),
+      other .place-of2 .ensures,
+      other .before .before .place-of .ensures,
+    )
 
 pub taken-spec : {M : Type 1} → statement M
 taken-spec =
@@ -71,7 +80,7 @@ taken-spec =
     mul-other
     element-copy-out-other
     seen-of-requires
-    advance-requires
+    any-line-requires
     mul-row
     element-set-from-row
     returns)

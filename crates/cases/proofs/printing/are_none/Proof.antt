@@ -1,6 +1,6 @@
 -- `are_none` is safe: the loop stays within the sixteen cells.
 use Prim.Native.Nat.{_-_, _≤_}
-use Rattle.table.specs.Numbers.{slots}
+use Rattle.fields.specs.Numbers.{slots}
 use borrow.Author.Needs.{needs}
 use Rattle.cases.proofs.printing.are_none.Statement.{statement}
 use Rattle.cases.proofs.printing.are_none.Tie as tie

@@ -1,6 +1,6 @@
 -- `put_cells` is safe: the loop stays within the sixteen cells.
 use Prim.Native.Nat.{_-_, _≤_}
-use Rattle.table.specs.Numbers.{slots}
+use Rattle.fields.specs.Numbers.{slots}
 use borrow.Author.Needs.{needs}
 use Rattle.cases.proofs.printing.put_cells.Statement.{statement}
 use Rattle.cases.proofs.printing.put_cells.Tie as tie

@@ -1,6 +1,6 @@
 -- `put_table` is safe: the loop stays within the sixteen rows.
 use Prim.Native.Nat.{_-_, _≤_}
-use Rattle.table.specs.Numbers.{slots}
+use Rattle.fields.specs.Numbers.{slots}
 use borrow.Author.Needs.{needs}
 use Rattle.cases.proofs.printing.put_table.Statement.{statement}
 use Rattle.cases.proofs.printing.put_table.Tie as tie

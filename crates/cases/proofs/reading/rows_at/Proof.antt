@@ -1,6 +1,6 @@
 -- `rows_at` is safe: the loop stays within the sixteen rows, and the bytes that are read within those of the rows.
 use Prim.Native.Nat.{_-_, _≤_}
-use Rattle.table.specs.Numbers.{slots}
+use Rattle.fields.specs.Numbers.{slots}
 use borrow.Author.Needs.{needs}
 use Rattle.cases.proofs.reading.rows_at.Statement.{statement}
 use Rattle.cases.proofs.reading.rows_at.Tie as tie

@@ -2,9 +2,9 @@
 use Prim.Native.Nat.{_≤_, _-_}
 use mathlib.Core.Bool.{true}
 use mathlib.Core.Path.{_≡_, refl, sym}
-use Rattle.table.specs.Numbers.{slots}
-use Rattle.table.specs.Tests.{every}
-use Rattle.table.proofs.Tests.{every-more, every-stops}
+use Rattle.fields.specs.Numbers.{slots}
+use Rattle.fields.specs.Tests.{every}
+use Rattle.fields.proofs.Tests.{every-more, every-stops}
 use Rattle.demands.specs.Agreement.{rowAtAgrees}
 use borrow.Author.Needs.{needs}
 use native.Mathlib.Omega.{arith}

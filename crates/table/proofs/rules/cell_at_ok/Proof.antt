@@ -1,7 +1,7 @@
 -- `cell_at_ok` meets its contract.
 use Prim.Native.Nat.{_+_, _-_}
 use mathlib.Core.Path.{_≡_}
-use Rattle.table.specs.Rules.{cellRule}
+use Rattle.table.specs.WellFormed.{cellRule}
 use native.Mathlib.Omega.{arith}
 use borrow.Author.Needs.{needs}
 use Rattle.table.proofs.rules.cell_at_ok.Statement.{statement}

@@ -1,7 +1,7 @@
 -- `row_at_ok` meets its contract.
 use Prim.Native.Nat.{_+_, _-_}
 use mathlib.Core.Path.{_≡_}
-use Rattle.table.specs.Rules.{rowRule}
+use Rattle.table.specs.WellFormed.{rowRule}
 use native.Mathlib.Omega.{arith}
 use borrow.Author.Needs.{needs}
 use Rattle.table.proofs.rules.row_at_ok.Statement.{statement}

@@ -1,5 +1,5 @@
 -- `row_ok` meets its contract.
-use Rattle.table.specs.Rules.{rowOk}
+use Rattle.table.specs.WellFormed.{rowOk}
 use borrow.Author.Needs.{needs}
 use Rattle.table.proofs.rules.row_ok.Statement.{statement}
 use Rattle.table.proofs.rules.row_ok.Tie as tie

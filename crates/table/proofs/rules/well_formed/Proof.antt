@@ -1,5 +1,5 @@
 -- `well_formed` meets its contract.
-use Rattle.table.specs.Rules.{wellFormed}
+use Rattle.table.specs.WellFormed.{wellFormed}
 use borrow.Author.Needs.{needs}
 use Rattle.table.proofs.rules.well_formed.Statement.{statement}
 use Rattle.table.proofs.rules.well_formed.Tie as tie

@@ -1,0 +1,2 @@
+pub mod Relied
+pub mod Calls

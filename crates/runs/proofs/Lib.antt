@@ -1,0 +1,4 @@
+pub mod Counts
+pub mod Courses
+pub mod Going
+pub mod Runs

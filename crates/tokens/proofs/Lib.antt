@@ -1,0 +1,5 @@
+pub mod Signed
+pub mod Remainder
+pub mod Lists
+pub mod NextToken
+pub mod Answers

@@ -1,0 +1,54 @@
+-- The lengths of the records, and of pieces one after another.
+use Prim.Native.Nat.{ℕ, zero, suc, _+_, _*_}
+use mathlib.Core.Path.{_≡_, refl, _∙_}
+use mathlib.Core.List.{List, _++_}
+use native.Mathlib.Omega.{arith}
+use native.Mathlib.Nat.{mul-suc}
+use native.Mathlib.Numerals.{add-one}
+use lib.IntN.{ℤ}
+use lib.ListN.{length, length-append}
+use Rattle.fields.specs.Numbers.{slots}
+use Rattle.table.specs.WellFormed.{rowOf, cellOf}
+use Rattle.table.specs.declared.Row.{Row}
+use Rattle.table.specs.declared.Table.{Table}
+use Rattle.writer.specs.FourBytes.{fourDigits, fourBytes}
+use Rattle.writer.specs.Form.{inTurn, headRecord, rowRecord, cellsRecord, recordsOf, encode, headLength, rowLength, cellsLength}
+use Rattle.writer.specs.Form.{formLength}
+
+-- one piece more
+pub turn-more : {A : Type 0} (f : ℕ → List A) (k : ℕ) → inTurn f (k + 1) ≡ inTurn f k ++ f (k + 1)
+unfolding inTurn
+turn-more f k = rw (add-one k)
+
+-- pieces of one length
+module _ {A : Type 0} (f : ℕ → List A) (m : ℕ) (each : (i : ℕ) → length (f i) ≡ m) where
+  pub turn-length : (k : ℕ) → length (inTurn f k) ≡ m * k
+  unfolding inTurn
+  turn-length zero = omega arith
+  turn-length (suc k) = length-append (inTurn f k) (f (suc k)) ∙ rw (turn-length k, each (suc k), mul-suc m k)
+
+pub four-length : (v : ℤ) → length (fourBytes v) ≡ 4
+unfolding fourBytes fourDigits
+four-length v = refl
+
+pub head-length : (t : Table) → length (headRecord t) ≡ headLength
+unfolding headRecord fourBytes fourDigits
+head-length t = refl
+
+pub row-length : (i : ℕ) (r : Row) → length (rowRecord i r) ≡ rowLength
+unfolding rowRecord fourBytes fourDigits
+row-length i r = refl
+
+pub cells-length : (i : ℕ) (r : Row) → length (cellsRecord i r) ≡ cellsLength
+unfolding cellsRecord
+cells-length i r = rw (turn-length (λ j. fourBytes (cellOf r j)) 4 (λ j. four-length (cellOf r j)) slots)
+
+pub records-length : (t : Table) (i : ℕ) → length (recordsOf t i) ≡ rowLength + cellsLength
+unfolding recordsOf
+records-length t i = length-append (rowRecord i (rowOf t i)) (cellsRecord i (rowOf t i)) ∙ rw (row-length i (rowOf t i), cells-length i (rowOf t i))
+
+pub encode-length : (t : Table) → length (encode t) ≡ formLength (t .n)
+unfolding encode
+encode-length t =
+    length-append (headRecord t) (inTurn (recordsOf t) (t .n))
+    ∙ rw (head-length t, turn-length (recordsOf t) (rowLength + cellsLength) (records-length t) (t .n))

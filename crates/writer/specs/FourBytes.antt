@@ -1,0 +1,16 @@
+-- Document 01, "Stored form": "Numbers of four bytes are little-endian; -1 is four bytes of 255."
+use Prim.Native.Nat.{ℕ, suc, _-_, _/_, _%_, _^_}
+use mathlib.Core.List.{List, [], _∷_}
+use lib.IntN.{ℤ, pos, negsuc}
+
+-- A number as its 32 bits. Those below 0 count down from 2 ^ 32, so that -1 has the bits of four bytes of 255.
+abbrev pub bitsOf : ℤ → ℕ
+bitsOf (pos a) = a
+bitsOf (negsuc a) = 2 ^ 32 - suc a
+
+-- "little-endian": the lowest byte comes first
+unfoldable pub fourDigits : ℕ → List ℕ
+fourDigits bits = bits % 256 ∷ bits / 256 % 256 ∷ bits / 256 / 256 % 256 ∷ bits / 256 / 256 / 256 % 256 ∷ []
+
+unfoldable pub fourBytes : ℤ → List ℕ
+fourBytes v = fourDigits (bitsOf v)
