@@ -16,7 +16,7 @@ use schedule::Schedule;
 use tally::Tally;
 
 // How many passages without waits a schedule has bytes for.
-const PASSAGES: u32 = 300;
+const PASSAGES: u32 = 100;
 
 // "A passage without waits takes 3n + 5 steps."
 fn passage(n: u8) -> u32
