@@ -2,16 +2,16 @@
 use crate::lent::fill;
 use crate::lent::first;
 use crate::lent::put_lent;
-use crate::printing::end_line;
 use crate::printing::put;
-use crate::printing::put_byte;
-use crate::printing::put_count;
 use crate::printing::put_table;
+use crate::printing::put_two;
+use crate::printing::put_words;
 use crate::reading::OPENING_LENGTH;
 use crate::reading::TABLE_LENGTH;
 use crate::reading::length_at;
 use crate::reading::table_in;
 use listing::LISTING_ROOM;
+use machine::Stepped;
 use runs::Ran;
 use table::Table;
 
@@ -26,8 +26,12 @@ pub(crate) fn put_fresh(body: &[u8]) {
         return;
     }
     let s = table::fresh(body[0], body[1]);
-    put_byte(b"stop ", s.stop);
-    end_line();
+    put_words(b"stop #\n", &[s.stop as usize]);
+    put_table(s.table);
+}
+
+fn put_stepped(s: Stepped) {
+    put_two(b"mark # stop #\n", s.mark as usize, s.stop as usize);
     put_table(s.table);
 }
 
@@ -36,21 +40,22 @@ pub(crate) fn put_step(body: &[u8]) {
         put_not_a_case();
         return;
     }
-    let s = machine::step(table_in(body), body[TABLE_LENGTH]);
-    put_byte(b"mark ", s.mark);
-    put_byte(b" stop ", s.stop);
-    end_line();
-    put_table(s.table);
+    put_stepped(machine::step(table_in(body), body[TABLE_LENGTH]));
 }
 
 fn put_counts(r: Ran) {
-    put_count(b"moved ", r.moved);
-    put_count(b" waited ", r.waited);
-    put_count(b" entries ", r.entries);
-    put_count(b" waiting ", r.waiting);
-    put_count(b" place ", r.place);
-    put_byte(b" stop ", r.stop);
-    end_line();
+    let words = b"moved # waited # entries # waiting # place # stop #\n";
+    put_words(
+        words,
+        &[
+            r.moved,
+            r.waited,
+            r.entries,
+            r.waiting,
+            r.place,
+            r.stop as usize,
+        ],
+    );
 }
 
 fn put_ran(start: Table, schedule: &[u8], lent: &mut [u8]) {

@@ -4,12 +4,10 @@ ghost use lib.ListN.{length};
 use crate::answers::put_not_a_case;
 use crate::lent::fill;
 use crate::lent::put_lent;
-use crate::lent::same_from;
-use crate::printing::end_line;
-use crate::printing::put_byte;
-use crate::printing::put_count;
+use crate::lent::same_bytes;
 use crate::printing::put_table;
-use crate::reading::LONGEST_CASE;
+use crate::printing::put_two;
+use crate::reading::LONGEST_BODY;
 use crate::reading::OPENING_LENGTH;
 use crate::reading::TABLE_LENGTH;
 use crate::reading::length_at;
@@ -21,9 +19,7 @@ use reader::Restored;
 use table::Table;
 
 fn put_restored(r: Restored) {
-    put_byte(b"stop ", r.stop);
-    put_count(b" place ", r.place);
-    end_line();
+    put_two(b"stop # place #\n", r.stop as usize, r.place);
     put_table(r.table);
 }
 
@@ -31,14 +27,12 @@ fn put_restored(r: Restored) {
 fn put_again(form: &[u8], lent: &mut [u8]) {
     fill(lent);
     read_and_written(form, lent);
-    put_count(b"again ", same_from(lent, form, 0));
-    put_count(b" of ", form.len());
-    end_line();
+    put_two(b"again # of #\n", same_bytes(lent, form), form.len());
 }
 
-// The form is no longer than a case file, so that a buffer of its length can be lent.
+// The form is no longer than a body, so that a buffer of its length can be lent.
 pub(crate) fn put_read(form: &[u8])
-    requires { do ⌜ length (now form) ≤ (← ⟦LONGEST_CASE⟧) ⌝ }
+    requires { do ⌜ length (now form) ≤ (← ⟦LONGEST_BODY⟧) ⌝ }
 {
     let r = reader::read(form);
     put_restored(r);
@@ -49,15 +43,17 @@ pub(crate) fn put_read(form: &[u8])
     }
 }
 
+fn put_read_back(t: Table, lent: &mut [u8]) {
+    fill(lent);
+    put_restored(written_and_read(t, lent));
+}
+
 fn put_wrote(t: Table, lent: &mut [u8]) {
     fill(lent);
     let w = writer::write(t, lent);
-    put_count(b"length ", w.length);
-    put_byte(b" stop ", w.stop);
-    end_line();
+    put_two(b"length # stop #\n", w.length, w.stop as usize);
     put_lent(b"bytes", lent, w.length);
-    fill(lent);
-    put_restored(written_and_read(t, lent));
+    put_read_back(t, lent);
 }
 
 pub(crate) fn put_write(body: &[u8]) {

@@ -1,8 +1,8 @@
 // A lent buffer: what it holds before a call, and what is printed of it after.
 use crate::printing::end_line;
 use crate::printing::put;
-use crate::printing::put_byte;
-use crate::printing::put_count;
+use crate::printing::put_number;
+use crate::printing::put_two;
 
 // What byte k of the buffer holds before a call. It is no process number.
 fn filler(k: usize) -> u8 {
@@ -26,25 +26,23 @@ pub(crate) fn first(bytes: &[u8], count: usize) -> &[u8] {
 fn put_bytes(word: &[u8], bytes: &[u8]) {
     put(word);
     for k in 0..bytes.len() {
-        put_byte(b" ", bytes[k]);
+        put_number(bytes[k] as i32);
     }
     end_line();
 }
 
-fn is_same_at(some: &[u8], others: &[u8], k: usize) -> bool {
-    if k < some.len() {
-        if k < others.len() {
-            return some[k] == others[k];
-        }
+fn is_at(bytes: &[u8], k: usize, byte: u8) -> bool {
+    if k < bytes.len() {
+        return bytes[k] == byte;
     }
     false
 }
 
-// At how many places from this one on two rows of bytes are the same.
-pub(crate) fn same_from(some: &[u8], others: &[u8], place: usize) -> usize {
+// At how many places two rows of bytes are the same.
+pub(crate) fn same_bytes(some: &[u8], others: &[u8]) -> usize {
     let mut same: usize = 0;
-    for k in place..some.len() {
-        if is_same_at(some, others, k) {
+    for k in 0..some.len() {
+        if is_at(others, k, some[k]) {
             same += 1;
         }
     }
@@ -53,9 +51,13 @@ pub(crate) fn same_from(some: &[u8], others: &[u8], place: usize) -> usize {
 
 // How many bytes of the buffer from this place on are as before the call, and how many there are.
 fn kept_from(lent: &[u8], place: usize) -> usize {
-    let mut before = io::large_buffer();
-    fill(&mut before);
-    same_from(lent, &before, place)
+    let mut kept: usize = 0;
+    for k in place..lent.len() {
+        if is_at(lent, k, filler(k)) {
+            kept += 1;
+        }
+    }
+    kept
 }
 
 fn left_from(lent: &[u8], place: usize) -> usize {
@@ -68,7 +70,9 @@ fn left_from(lent: &[u8], place: usize) -> usize {
 // The buffer after a call: what the call has written to its front, after a word, and what stands after that.
 pub(crate) fn put_lent(word: &[u8], lent: &[u8], written: usize) {
     put_bytes(word, first(lent, written));
-    put_count(b"kept ", kept_from(lent, written));
-    put_count(b" of ", left_from(lent, written));
-    end_line();
+    put_two(
+        b"kept # of #\n",
+        kept_from(lent, written),
+        left_from(lent, written),
+    );
 }

@@ -10,23 +10,14 @@ mod round_trips;
 use answers::put_not_a_case;
 use printing::end_line;
 use printing::put;
-use reading::LONGEST_CASE;
+use reading::LONGEST_BODY;
 
-// Room for one byte more than the longest case has, so that a longer file shows.
-const CASE_ROOM: usize = LONGEST_CASE + 1;
-
-// The answer to a case by its kind, the first byte of the file.
-fn put_answer(case: &[u8]) {
-    if case.len() < 1 {
+// The answer to a case by its kind.
+fn put_answer(kind: u8, body: &[u8]) {
+    if body.len() > LONGEST_BODY {
         put_not_a_case();
         return;
     }
-    if case.len() > LONGEST_CASE {
-        put_not_a_case();
-        return;
-    }
-    let kind = case[0];
-    let body = &case[1..];
     match kind {
         b'F' => answers::put_fresh(body),
         b'S' => answers::put_step(body),
@@ -38,6 +29,16 @@ fn put_answer(case: &[u8]) {
     }
 }
 
+// A case file: its kind, the first byte, and its body. The buffer has room for more than the longest body, so that a longer one shows.
+fn put_file(file: i32) {
+    let mut kind = [0u8; 1];
+    io::read_full(file, &mut kind);
+    let mut body = io::large_buffer();
+    let length = io::read_full(file, &mut body);
+    libc::close(file);
+    put_answer(kind[0], &body[..length]);
+}
+
 fn put_case(name: &[u8]) {
     put(b"== ");
     put(name);
@@ -47,10 +48,7 @@ fn put_case(name: &[u8]) {
         put(b"no such case\n");
         return;
     }
-    let mut case = [0u8; CASE_ROOM];
-    let length = io::read_full(file, &mut case);
-    libc::close(file);
-    put_answer(&case[..length]);
+    put_file(file);
 }
 
 // The case that argument i names. A name too long for the buffer counts as empty, which no file is called.

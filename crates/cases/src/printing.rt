@@ -15,23 +15,30 @@ pub(crate) fn end_line() {
     put(b"\n");
 }
 
-// A number after some words: a count, a byte, or a number that may be below zero.
-pub(crate) fn put_count(words: &[u8], count: usize) {
-    put(words);
-    io::print_decimal(STDOUT_FILENO, count as u64);
-}
-
-pub(crate) fn put_byte(words: &[u8], byte: u8) {
-    put(words);
-    io::print_decimal(STDOUT_FILENO, byte as u64);
-}
-
-fn put_signed(words: &[u8], number: i32) {
-    put(words);
-    if number < 0 {
-        put(b"-");
+// The count at place k of some, where they have one.
+fn put_count_at(counts: &[usize], k: usize) {
+    if k < counts.len() {
+        io::print_decimal(STDOUT_FILENO, counts[k] as u64);
     }
-    io::print_decimal(STDOUT_FILENO, magnitude(number));
+}
+
+// Some words, with a count in the place of each `#`.
+pub(crate) fn put_words(words: &[u8], counts: &[usize]) {
+    let mut place: usize = 0;
+    let mut next: usize = 0;
+    for k in 0..words.len() {
+        if words[k] == b'#' {
+            put(&words[place..k]);
+            put_count_at(counts, next);
+            place = k + 1;
+            next += 1;
+        }
+    }
+    put(&words[place..]);
+}
+
+pub(crate) fn put_two(words: &[u8], first: usize, second: usize) {
+    put_words(words, &[first, second]);
 }
 
 // A number without its sign. `!` of one below zero is how far it is from -1, which is no number too large even for the smallest.
@@ -40,6 +47,21 @@ fn magnitude(number: i32) -> u64 {
         (!number) as u64 + 1
     } else {
         number as u64
+    }
+}
+
+// A number after a space.
+pub(crate) fn put_number(number: i32) {
+    put(b" ");
+    if number < 0 {
+        put(b"-");
+    }
+    io::print_decimal(STDOUT_FILENO, magnitude(number));
+}
+
+fn put_numbers(numbers: &[i32]) {
+    for k in 0..numbers.len() {
+        put_number(numbers[k]);
     }
 }
 
@@ -63,23 +85,24 @@ fn is_fresh(r: Row) -> bool {
         & are_none(cells)
 }
 
-fn put_cells(cells: [i32; SLOTS]) {
-    for k in 0..SLOTS {
-        let cell = cells[k];
-        put_signed(b" ", cell);
-    }
+fn put_fields(r: Row) {
+    put_numbers(
+        &[
+            r.line as i32,
+            r.index as i32,
+            r.choosing as i32,
+            r.token,
+            r.pivot,
+        ],
+    );
 }
 
 fn put_row(process: usize, r: Row) {
-    put_count(b"row ", process);
-    put_byte(b": ", r.line);
-    put_byte(b" ", r.index);
-    put_byte(b" ", r.choosing);
-    put_signed(b" ", r.token);
-    put_signed(b" ", r.pivot);
+    put_words(b"row #:", &[process]);
+    put_fields(r);
     put(b" |");
     let cells = r.cells;
-    put_cells(cells);
+    put_numbers(&cells);
     end_line();
 }
 
@@ -94,9 +117,8 @@ fn put_row_at(t: Table, k: usize)
 }
 
 fn put_head(t: Table) {
-    put_byte(b"table ", t.algorithm);
-    put_byte(b" ", t.n);
-    put_signed(b" x ", t.x);
+    put_two(b"table # # x", t.algorithm as usize, t.n as usize);
+    put_number(t.x);
     end_line();
 }
 

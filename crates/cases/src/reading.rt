@@ -6,8 +6,8 @@ use fields::SLOTS;
 use table::Row;
 use table::Table;
 
-// How many bytes a case file may have.
-pub(crate) const LONGEST_CASE: usize = 65536;
+// How many bytes a case file may have after its kind.
+pub(crate) const LONGEST_BODY: usize = 65535;
 
 // How many it has for a number, and for each part of a table.
 const NUMBER_LENGTH: usize = 4;
@@ -33,25 +33,20 @@ fn digit(byte: u8) -> u32
     byte as u32
 }
 
-// A length of two bytes, the lower one first.
+// A number of two bytes, the lower one first.
+fn pair_at(bytes: &[u8], place: usize) -> u32
+    requires { ⌜ place + 2 ≤ length (now bytes) ⌝ }
+    ensures { λ p. ⌜ p < 65536 ⌝ }
+{
+    let low = digit(bytes[place]);
+    low + 256 * digit(bytes[place + 1])
+}
+
 pub(crate) fn length_at(bytes: &[u8], place: usize) -> usize
     requires { ⌜ place + 2 ≤ length (now bytes) ⌝ }
     ensures { λ l. ⌜ l < 65536 ⌝ }
 {
-    let low = digit(bytes[place]);
-    let high = digit(bytes[place + 1]);
-    (low + 256 * high) as usize
-}
-
-// The four bytes of a number, the lowest one first, as a number without a sign.
-fn bits_at(bytes: &[u8], place: usize) -> u32
-    requires { do ⌜ place + (← ⟦NUMBER_LENGTH⟧) ≤ length (now bytes) ⌝ }
-{
-    let a = digit(bytes[place]);
-    let b = digit(bytes[place + 1]);
-    let c = digit(bytes[place + 2]);
-    let d = digit(bytes[place + 3]);
-    a + 256 * b + 65536 * c + 16777216 * d
+    pair_at(bytes, place) as usize
 }
 
 // Two's complement: the upper half of the bits stands for the numbers below zero.
@@ -63,10 +58,12 @@ fn signed(bits: u32) -> i32 {
     }
 }
 
+// A number of four bytes, the lowest one first.
 fn number_at(bytes: &[u8], place: usize) -> i32
     requires { do ⌜ place + (← ⟦NUMBER_LENGTH⟧) ≤ length (now bytes) ⌝ }
 {
-    signed(bits_at(bytes, place))
+    let low = pair_at(bytes, place);
+    signed(low + 65536 * pair_at(bytes, place + 2))
 }
 
 fn cells_at(bytes: &[u8], place: usize) -> [i32; SLOTS]

@@ -19,8 +19,9 @@ use Rattle.table.specs.declared.Row.{Row}
 use Rattle.table.specs.declared.Table.{Table}
 use Rattle.fields.proofs.Tests.{_and_, within-low, within-high, every-at}
 use Rattle.table.proofs.WellFormed.{fresh-well-formed}
-use Rattle.machine.specs.Setters.{withLine, withIndex, withToken}
-use Rattle.machine.specs.Step.{line4, lineStep, advanceOf, takenOf, stepOf}
+use Rattle.rows.specs.Setters.{withLine, withIndex, withToken}
+use Rattle.rows.specs.Lines.{line4, lineStep, advanceOf}
+use Rattle.machine.specs.Step.{takenOf, stepOf}
 use Rattle.runs.specs.Run.{Course, courseOf, those, movedIn, waitedIn, entriesIn, enteredIn, answerOf, runRefusal, runOf, bufferOf}
 use Rattle.machine.specs.declared.Stepped.{Stepped}
 use Rattle.runs.specs.declared.Ran.{Ran}

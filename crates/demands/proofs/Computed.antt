@@ -17,7 +17,8 @@ use Rattle.table.specs.declared.Table.{Table}
 use Rattle.fields.proofs.Tests.{and-halves}
 use Rattle.table.proofs.WellFormed.{fresh-well-formed, fresh-sized}
 use Rattle.tokens.specs.Tokens.{remainder, largest, nextUb, shifted, shiftedCell, nextB, beforeUb, beforeB, nextToken, goesBefore}
-use Rattle.machine.specs.Step.{nextOther, goesOn, line2, line4, line5, line6, line7, lineStep, advanceOf, takenOf, stepOf}
+use Rattle.rows.specs.Lines.{nextOther, goesOn, line2, line4, line5, line6, line7, lineStep, advanceOf}
+use Rattle.machine.specs.Step.{takenOf, stepOf}
 use Rattle.runs.specs.Run.{Turn, Course, standsAt, begunBy, courseOf, those, movedIn, waitedIn, entriesIn, enteredIn}
 use Rattle.runs.specs.Run.{runRefusal, runOf, bufferOf}
 use Rattle.machine.proofs.Steps.{step-taken, step-machine, step-well-formed, step-sized}

@@ -14,7 +14,7 @@ use Rattle.table.specs.declared.Row.{Row}
 use Rattle.table.specs.declared.Table.{Table}
 use Rattle.fields.proofs.Tests.{up-to-next}
 use Rattle.tokens.specs.Tokens.{remainder}
-use Rattle.machine.specs.Setters.{withLine, withIndex, withChoosing, withToken}
+use Rattle.rows.specs.Setters.{withLine, withIndex, withChoosing, withToken}
 use Rattle.runs.specs.Run.{Course, courseOf}
 use Rattle.demands.specs.Agreement.{f, isRemainder, rowAgrees, rowAtAgrees, agree, meets}
 use Rattle.demands.specs.ForEver.{Holds, aheadOf}

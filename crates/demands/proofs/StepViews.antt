@@ -14,11 +14,12 @@ use Rattle.table.specs.declared.Row.{Row}
 use Rattle.table.specs.declared.Table.{Table}
 use Rattle.fields.proofs.Tests.{by-test, within-yes}
 use Rattle.table.proofs.WellFormed.{table-rules}
-use Rattle.machine.specs.Step.{passes, line2, line4, line5, line6, line7, advanceOf, seenOf, putBack, takenOf, stepOf}
-use Rattle.machine.specs.declared.Seen.{Seen}
-use Rattle.machine.specs.declared.Advanced.{Advanced}
+use Rattle.rows.specs.Lines.{passes, line2, line4, line5, line6, line7, advanceOf}
+use Rattle.rows.specs.declared.Seen.{Seen}
+use Rattle.rows.specs.declared.Advanced.{Advanced}
+use Rattle.rows.proofs.ByLine.{by-line}
+use Rattle.machine.specs.Step.{seenOf, putBack, takenOf, stepOf}
 use Rattle.machine.specs.declared.Stepped.{Stepped}
-use Rattle.machine.proofs.ByLine.{by-line}
 use Rattle.machine.proofs.Steps.{step-taken, step-process}
 use Rattle.theory.proofs.Tokens.{Token}
 use Rattle.theory.proofs.Model.{Place, State, isChoosing, set, put, moves, step}

@@ -14,7 +14,7 @@ use Rattle.table.specs.Fresh.{allNone, freshRow, freshTable}
 use Rattle.table.specs.Lent.{inFront}
 use Rattle.table.specs.declared.Table.{Table}
 use Rattle.tokens.specs.Tokens.{nextToken, goesBefore}
-use Rattle.machine.specs.Setters.{withLine, withChoosing, withPivot, withCells}
+use Rattle.rows.specs.Setters.{withLine, withChoosing, withPivot, withCells}
 use Rattle.machine.specs.Step.{refusedStep, stepOf}
 use Rattle.runs.specs.Run.{runOf, bufferOf}
 use Rattle.runs.specs.declared.Ran.{Ran}

@@ -1,1 +1,1 @@
-// No code that runs: what is promised of the definitions of `table`, `machine`, `writer` and `reader`, stated in specs/, proved in proofs/.
+// No code that runs: what is promised of the definitions of the library, stated in specs/, proved in proofs/.

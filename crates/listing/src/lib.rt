@@ -28,20 +28,15 @@ const REST_ROOM: usize = 200;
 // Room for the longest text: a line for each byte of the schedule, and the rest.
 pub const LISTING_ROOM: usize = SCHEDULE_LIMIT * ENTRY_ROOM + REST_ROOM;
 
-// A byte as a number to print.
-fn number(b: u8) -> usize
-    ensures { λ r. ⌜ r ≡ b ⌝ }
-{
-    b as usize
-}
-
 // `bakery A n`
 fn put_bakery(text: &mut [u8; LISTING_ROOM], at: usize, algorithm: u8, n: u8) -> usize
     requires { ⌜ at + length (bakeryLine algorithm n) ≤ room ⌝ }
     ensures { λ r. ⌜ Written (now (text .entry)) at (bakeryLine algorithm n) (now (text .exit)) r ⌝ }
 {
-    let next = put_numbered(text, at, b"bakery ", number(algorithm));
-    put_line(text, next, b" ", number(n))
+    let machine = algorithm as usize;
+    let count = n as usize;
+    let next = put_numbered(text, at, b"bakery ", machine);
+    put_line(text, next, b" ", count)
 }
 
 // `entry P`
@@ -49,7 +44,8 @@ fn put_entry(text: &mut [u8; LISTING_ROOM], at: usize, process: u8) -> usize
     requires { ⌜ at + length (entryLine process) ≤ room ⌝ }
     ensures { λ r. ⌜ Written (now (text .entry)) at (entryLine process) (now (text .exit)) r ⌝ }
 {
-    put_line(text, at, b"entry ", number(process))
+    let number = process as usize;
+    put_line(text, at, b"entry ", number)
 }
 
 // One line for each entry, in order.
@@ -75,7 +71,8 @@ fn put_counts(text: &mut [u8; LISTING_ROOM], at: usize, r: Ran) -> usize
     let after_waited = put_numbered(text, after_moved, b" waited ", r.waited);
     let after_entries = put_numbered(text, after_waited, b" entries ", r.entries);
     let after_waiting = put_numbered(text, after_entries, b" waiting ", r.waiting);
-    put_line(text, after_waiting, b" stop ", number(r.stop))
+    let stop = r.stop as usize;
+    put_line(text, after_waiting, b" stop ", stop)
 }
 
 // `refused N` alone.
@@ -83,7 +80,8 @@ fn put_refused(text: &mut [u8; LISTING_ROOM], stop: u8) -> usize
     ensures { λ r. ⌜ Written (now (text .entry)) 0 (refusedLine stop) (now (text .exit)) r ⌝ }
     ensures { λ r. ⌜ r ≤ room ⌝ }
 {
-    put_line(text, 0, b"refused ", number(stop))
+    let number = stop as usize;
+    put_line(text, 0, b"refused ", number)
 }
 
 // The text of a run from a fresh table.

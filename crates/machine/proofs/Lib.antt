@@ -1,5 +1,2 @@
-pub mod ByLine
-pub mod Keeps
-pub mod Marks
 pub mod Ready
 pub mod Steps

@@ -16,11 +16,12 @@ use Rattle.table.specs.declared.Row.{Row}
 use Rattle.table.specs.declared.Table.{Table}
 use Rattle.fields.proofs.Tests.{by-test, within-low, within-high}
 use Rattle.table.proofs.WellFormed.{TableRules, RowRules, table-rules, well-formed, token-range}
-use Rattle.machine.specs.Step.{seenOf, putBack, refusedStep, advanceOf, takenOf, stepOf}
-use Rattle.machine.specs.declared.Advanced.{Advanced}
+use Rattle.rows.specs.Lines.{advanceOf}
+use Rattle.rows.specs.declared.Advanced.{Advanced}
+use Rattle.rows.proofs.Keeps.{Sees, Kept, advance-keeps}
+use Rattle.rows.proofs.Marks.{Still, Moved, Marked, advance-marked}
+use Rattle.machine.specs.Step.{seenOf, putBack, refusedStep, takenOf, stepOf}
 use Rattle.machine.specs.declared.Stepped.{Stepped}
-use Rattle.machine.proofs.Keeps.{Sees, Kept, advance-keeps}
-use Rattle.machine.proofs.Marks.{Still, Moved, Marked, advance-marked}
 
 -- A step is refused, or it is the step of one of the processes of a well-formed table.
 by-case : (t : Table) (i : ℕ) (P : Stepped → Type 0)

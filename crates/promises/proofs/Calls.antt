@@ -99,16 +99,25 @@ pub step-relied : StepRelied
 step-relied = record { every-input = λ κs given. tt; one-answer = same }
 
 pub run-relied : RunRelied
-run-relied = record { answers = record { every-input = λ κs given. tt; one-answer = λ p q. same (p .0) (q .0) }; one-buffer = λ p q. same (p .1) (q .1) }
+run-relied = record {
+  answers = record { every-input = λ κs given. tt; one-answer = λ p q. same (p .0) (q .0) };
+  one-buffer = λ p q. same (p .1) (q .1);
+}
 
 pub form-length-relied : FormLengthRelied
 form-length-relied = record { every-input = λ κs given. tt; one-answer = same }
 
 pub write-relied : WriteRelied
-write-relied = record { answers = record { every-input = λ κs given. tt; one-answer = λ p q. same (p .0) (q .0) }; one-buffer = λ p q. same (p .1) (q .1) }
+write-relied = record {
+  answers = record { every-input = λ κs given. tt; one-answer = λ p q. same (p .0) (q .0) };
+  one-buffer = λ p q. same (p .1) (q .1);
+}
 
 pub read-relied : ReadRelied
 read-relied = record { every-input = λ κs given. tt; one-answer = same }
 
 pub list-relied : ListRelied
-list-relied = record { answers = record { every-input = λ κs given. tt; one-answer = λ p q. same (p .0 .0) (q .0 .0) }; one-buffer = λ p q. same (p .1) (q .1) }
+list-relied = record {
+  answers = record { every-input = λ κs given. tt; one-answer = λ p q. same (p .0 .0) (q .0 .0) };
+  one-buffer = λ p q. same (p .1) (q .1);
+}

@@ -1,5 +1,6 @@
--- Every public call of the library, with what a reader may rely on of it. `C.Reads.Asked` and `C.Reads.Learnt` are what the contract of the call C
--- asks and what it promises, as its callers have them; so the promise here is the contract's own.
+-- Every public call of the library, with what a reader may rely on of it. Of a call C, `C.Reads.Asked` and `C.Reads.Learnt` are what its
+-- contract asks and what it promises, as its callers have them: the promise here is the contract's own. `C.Kinds` are its parameters and its
+-- result, and the number before them is that of its lifetimes.
 use denote.Ref.{now}
 use Rattle.fields.proofs.Value
 use Rattle.fields.proofs.number_within
@@ -22,8 +23,8 @@ use Rattle.table.proofs.well_formed
 use Rattle.table.proofs.fresh
 use Rattle.tokens.proofs.next_token
 use Rattle.tokens.proofs.goes_before
-use Rattle.machine.proofs.seen_of
-use Rattle.machine.proofs.advance
+use Rattle.rows.proofs.seen_of
+use Rattle.rows.proofs.advance
 use Rattle.machine.proofs.step
 use Rattle.runs.proofs.run
 use Rattle.writer.proofs.form_length
@@ -32,7 +33,7 @@ use Rattle.reader.proofs.read
 use Rattle.listing.proofs.list
 use Rattle.promises.specs.Relied.{Answers, AnswersAndLeaves}
 
--- `fields`: A number as a table holds it.
+-- `fields`: a number as a table holds it
 abbrev pub ValueOfNumberRelied : Type 0
 ValueOfNumberRelied = Answers 0 Value.of_number.Kinds.ps Value.of_number.Kinds.r Value.of_number.Reads.Asked Value.of_number.Reads.Learnt
 
@@ -45,7 +46,7 @@ ValueIsBelowRelied = Answers 0 Value.is_below.Kinds.ps Value.is_below.Kinds.r Va
 abbrev pub ValueIsNoneRelied : Type 0
 ValueIsNoneRelied = Answers 0 Value.is_none.Kinds.ps Value.is_none.Kinds.r Value.is_none.Reads.Asked Value.is_none.Reads.Learnt
 
--- `fields`: The rules of the fields, and what they are said in.
+-- `fields`: what the rules are said in, and the rule of each field
 abbrev pub NumberWithinRelied : Type 0
 NumberWithinRelied = Answers 0 number_within.Kinds.ps number_within.Kinds.r number_within.Reads.Asked number_within.Reads.Learnt
 
@@ -82,7 +83,7 @@ MayHoldRelied = Answers 0 may_hold.Kinds.ps may_hold.Kinds.r may_hold.Reads.Aske
 abbrev pub CellOkRelied : Type 0
 CellOkRelied = Answers 0 cell_ok.Kinds.ps cell_ok.Kinds.r cell_ok.Reads.Asked cell_ok.Reads.Learnt
 
--- `table`: The table.
+-- `table`: the place and the numbers of a row, when a table is well formed, a fresh table
 abbrev pub PlaceOfRelied : Type 0
 PlaceOfRelied = Answers 0 place_of.Kinds.ps place_of.Kinds.r place_of.Reads.Asked place_of.Reads.Learnt
 
@@ -101,38 +102,39 @@ WellFormedRelied = Answers 0 well_formed.Kinds.ps well_formed.Kinds.r well_forme
 abbrev pub FreshRelied : Type 0
 FreshRelied = Answers 0 fresh.Kinds.ps fresh.Kinds.r fresh.Reads.Asked fresh.Reads.Learnt
 
--- `tokens`: Tokens.
+-- `tokens`: the next token, and who goes before
 abbrev pub NextTokenRelied : Type 0
 NextTokenRelied = Answers 0 next_token.Kinds.ps next_token.Kinds.r next_token.Reads.Asked next_token.Reads.Learnt
 
 abbrev pub GoesBeforeRelied : Type 0
 GoesBeforeRelied = Answers 0 goes_before.Kinds.ps goes_before.Kinds.r goes_before.Reads.Asked goes_before.Reads.Learnt
 
--- `machine`: One step.
+-- `rows`: one step over a row
 abbrev pub SeenOfRelied : Type 0
 SeenOfRelied = Answers 0 seen_of.Kinds.ps seen_of.Kinds.r seen_of.Reads.Asked seen_of.Reads.Learnt
 
 abbrev pub AdvanceRelied : Type 0
 AdvanceRelied = Answers 0 advance.Kinds.ps advance.Kinds.r advance.Reads.Asked advance.Reads.Learnt
 
+-- `machine`: one step of a table
 abbrev pub StepRelied : Type 0
 StepRelied = Answers 0 step.Kinds.ps step.Kinds.r step.Reads.Asked step.Reads.Learnt
 
--- `runs`: A run. Its buffer is the third parameter.
+-- `runs`: a run; the entry buffer is the third parameter
 abbrev pub RunRelied : Type 0
 RunRelied = AnswersAndLeaves 2 run.Kinds.ps run.Kinds.r run.Reads.Asked run.Reads.Learnt (λ κs e. now (e .1 .1 .0))
 
--- `writer`: Writing. The buffer is the second parameter.
+-- `writer`: writing; the buffer is the second parameter
 abbrev pub FormLengthRelied : Type 0
 FormLengthRelied = Answers 0 form_length.Kinds.ps form_length.Kinds.r form_length.Reads.Asked form_length.Reads.Learnt
 
 abbrev pub WriteRelied : Type 0
 WriteRelied = AnswersAndLeaves 1 write.Kinds.ps write.Kinds.r write.Reads.Asked write.Reads.Learnt (λ κs e. now (e .1 .0))
 
--- `reader`: Reading.
+-- `reader`: reading
 abbrev pub ReadRelied : Type 0
 ReadRelied = Answers 1 read.Kinds.ps read.Kinds.r read.Reads.Asked read.Reads.Learnt
 
--- `listing`: The entry lister. Its text is the second parameter.
+-- `listing`: the entry lister; the text is the second parameter
 abbrev pub ListRelied : Type 0
 ListRelied = AnswersAndLeaves 2 list.Kinds.ps list.Kinds.r list.Reads.Asked list.Reads.Learnt (λ κs e. now (e .1 .0))

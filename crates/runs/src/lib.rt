@@ -14,8 +14,8 @@ use fields::SCHEDULE_LIMIT;
 use fields::SLOTS;
 use fields::Value;
 use fields::refusal;
-use machine::advance;
-use machine::seen_of;
+use rows::advance;
+use rows::seen_of;
 use table::Table;
 use table::place_of;
 
@@ -102,13 +102,6 @@ fn note_entry(entries: &mut [u8], count: usize, line: u8, i: u8) -> usize
     count
 }
 
-// A mark as a count: a step that changed the table is one more that did.
-fn count_of(mark: u8) -> usize
-    ensures { λ c. ⌜ c ≡ mark ⌝ }
-{
-    mark as usize
-}
-
 // The bytes of a schedule, taken one after another up to the first that is refused. A step touches its own row and X alone, so that a row
 // is what is taken out of the table and put back.
 fn course(start: Table, schedule: &[u8], entries: &mut [u8]) -> Ran
@@ -135,7 +128,8 @@ fn course(start: Table, schedule: &[u8], entries: &mut [u8]) -> Ran
             return ended(t, moved, entered, k, a.stop);
         }
         entered = note_entry(entries, entered, r.line, i);
-        moved += count_of(a.mark);
+        let mark = a.mark as usize;
+        moved += mark;
         let row = a.row;
         t.rows[p] = row;
         t.x = a.x;

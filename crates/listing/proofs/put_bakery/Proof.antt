@@ -9,42 +9,32 @@ use Rattle.listing.proofs.put_bakery.Tie as tie
 slice-aggregate-put-numbered : tie.Need-slice-aggregate-put-numbered
 slice-aggregate-put-numbered c = search needs
 
-number-requires : tie.Need-number-requires
-number-requires c κs = search needs
-
 put-numbered-requires : tie.Need-put-numbered-requires
 unfolding bakeryLine numberedLine numbered ascii
 put-numbered-requires c κs =
-    let b = c .before .before .before in
-    rw (c .number .ensures) (room-first _ (numbered "bakery " (b .args .algorithm)) (numberedLine " " (b .args .n)) (b .pre))
+    let b = c .before .before in
+    room-first _ (numbered "bakery " (b .args .algorithm)) (numberedLine " " (b .args .n)) (b .pre)
 
 slice-aggregate-put-line : tie.Need-slice-aggregate-put-line
 slice-aggregate-put-line c = search needs
 
-number-requires-2 : tie.Need-number-requires-2
-number-requires-2 c κs = search needs
-
 put-line-requires : tie.Need-put-line-requires
 unfolding bakeryLine numberedLine numbered ascii
 put-line-requires c κs =
-    let b = c .before .before .before in
-    let start = b .before .before .before .before in
-    rw (c .number2 .ensures) (room-next (rw (b .before .number .ensures) at (b .put-numbered .ensures)) (numberedLine " " (start .args .n)) (start .pre))
+    let b = c .before .before in
+    let start = b .before .before .before in
+    room-next (b .put-numbered .ensures) (numberedLine " " (start .args .n)) (start .pre)
 
 returns : tie.Need-returns
 unfolding bakeryLine numberedLine numbered ascii
-returns c =
-    let b = c .before .before .before .before in
-    and-then (rw (b .before .number .ensures) at (b .put-numbered .ensures)) (rw (c .before .number2 .ensures) at (c .put-line .ensures))
+returns c = and-then (c .before .before .before .put-numbered .ensures) (c .put-line .ensures)
 
 pub put-bakery-spec : {M : Type 1} → statement M
 put-bakery-spec =
     tie.close
     (tie.spec
     slice-aggregate-put-numbered
-    number-requires
     put-numbered-requires
     slice-aggregate-put-line
-    number-requires-2
     put-line-requires
     returns)

@@ -95,22 +95,22 @@ four-written c =
     (and-then (and-then (first .put-numbered .ensures) (second .put-numbered2 .ensures)) (third .put-numbered3 .ensures))
     (c .put-numbered4 .ensures)
 
+cast-stop : tie.Need-cast-stop
+cast-stop c = search needs
+
 slice-aggregate-put-line : tie.Need-slice-aggregate-put-line
 slice-aggregate-put-line c = search needs
-
-number-requires : tie.Need-number-requires
-number-requires c κs = search needs
 
 put-line-requires : tie.Need-put-line-requires
 unfolding countsLine numberedLine numbered ascii
 put-line-requires c κs =
     let fourth = c .before .before .before in
     let b = fourth .before .before .before .before .before .before .before .before .before .before .before .before in
-    rw (c .number .ensures) (room-next (four-written fourth) (numberedLine " stop " (b .args .r .stop)) (b .pre))
+    room-next (four-written fourth) (numberedLine " stop " (b .args .r .stop)) (b .pre)
 
 returns : tie.Need-returns
 unfolding countsLine numberedLine numbered ascii
-returns c = and-then (four-written (c .before .before .before .before)) (rw (c .before .number .ensures) at (c .put-line .ensures))
+returns c = and-then (four-written (c .before .before .before .before)) (c .put-line .ensures)
 
 pub put-counts-spec : {M : Type 1} → statement M
 put-counts-spec =
@@ -124,7 +124,7 @@ put-counts-spec =
     put-numbered-requires-3
     slice-aggregate-put-numbered-4
     put-numbered-requires-4
+    cast-stop
     slice-aggregate-put-line
-    number-requires
     put-line-requires
     returns)

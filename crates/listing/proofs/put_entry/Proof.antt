@@ -8,17 +8,14 @@ use Rattle.listing.proofs.put_entry.Tie as tie
 slice-aggregate-put-line : tie.Need-slice-aggregate-put-line
 slice-aggregate-put-line c = search needs
 
-number-requires : tie.Need-number-requires
-number-requires c κs = search needs
-
 put-line-requires : tie.Need-put-line-requires
 unfolding entryLine numberedLine numbered ascii
-put-line-requires c κs = rw (c .number .ensures) (c .before .before .before .pre)
+put-line-requires c κs = c .before .before .pre
 
 returns : tie.Need-returns
 unfolding entryLine numberedLine numbered ascii
-returns c = rw (c .before .number .ensures) at (c .put-line .ensures)
+returns c = c .put-line .ensures
 
 pub put-entry-spec : {M : Type 1} → statement M
 put-entry-spec =
-    tie.close (tie.spec slice-aggregate-put-line number-requires put-line-requires returns)
+    tie.close (tie.spec slice-aggregate-put-line put-line-requires returns)

@@ -11,24 +11,20 @@ use Rattle.listing.proofs.put_refused.Tie as tie
 slice-aggregate-put-line : tie.Need-slice-aggregate-put-line
 slice-aggregate-put-line c = search needs
 
-number-requires : tie.Need-number-requires
-number-requires c κs = search needs
-
 put-line-requires : tie.Need-put-line-requires
 unfolding refusedLine numberedLine numbered ascii
 put-line-requires c κs =
-    let b = c .before .before .before in
+    let b = c .before .before in
     let byte : b .args .stop < 256 = search needs in
-    rw (c .number .ensures) (omega (arith, refused-short (b .args .stop) byte))
+    omega (arith, refused-short (b .args .stop) byte)
 
 returns : tie.Need-returns
 unfolding refusedLine numberedLine numbered ascii
 returns c =
-    let b = c .before .before .before .before in
+    let b = c .before .before .before in
     let byte : b .args .stop < 256 = search needs in
-    let line = rw (c .before .number .ensures) at (c .put-line .ensures) in
-    (line, omega (arith, line .place, refused-short (b .args .stop) byte))
+    (c .put-line .ensures, omega (arith, c .put-line .ensures .place, refused-short (b .args .stop) byte))
 
 pub put-refused-spec : {M : Type 1} → statement M
 put-refused-spec =
-    tie.close (tie.spec slice-aggregate-put-line number-requires put-line-requires returns)
+    tie.close (tie.spec slice-aggregate-put-line put-line-requires returns)

@@ -1,11 +1,16 @@
 -- `taken` meets its contract.
 use Prim.Native.Nat.{_<_, _≤_}
+use mathlib.Core.Path.{_≡_, ap, _∙_}
 use mir.Facts.{toZ-ofZ}
 use mir.Syntax.{w32}
 use mir.Val.{SFits}
+use lib.IntN.{ℤ}
+use lib.ListN.{set}
 use Rattle.fields.specs.Numbers.{slots}
 use Rattle.table.specs.WellFormed.{rowOf}
-use Rattle.machine.specs.Step.{takenOf}
+use Rattle.rows.specs.Lines.{advanceOf}
+use Rattle.rows.proofs.Ready.{ready-advance}
+use Rattle.machine.specs.Step.{seenOf, takenOf}
 use borrow.Author.Needs.{needs}
 use native.Mathlib.Omega.{arith}
 use Rattle.machine.proofs.taken.Statement.{statement}
@@ -39,10 +44,8 @@ element-copy-out-other c = other-slot c
 seen-of-requires : tie.Need-seen-of-requires
 seen-of-requires c κs = search needs
 
-any-line-requires : tie.Need-any-line-requires
-any-line-requires c κs =
-    let own = c .before .before .before .before .before in
-    rw (own .place-of .ensures) (own .before .pre .1)
+advance-requires : tie.Need-advance-requires
+advance-requires c κs = search needs
 
 mul-row : tie.Need-mul-row
 mul-row c = search needs
@@ -54,20 +57,40 @@ element-set-from-row c = search needs
 x-fits : (c : tie.Start) → SFits w32 (c .args .t1 .x)
 x-fits c = search needs
 
+-- What `advance` answers is the step of the row of process i.
+advanced : (c : tie.After-advance)
+    → let start = c .before .before .before .before .before .before .before in
+    let t = start .args .t1 in
+    let r = rowOf t (start .args .i) in
+    c .advance .result ≡ advanceOf (t .algorithm) (t .n) (start .args .i) (seenOf t r) r
+advanced c =
+    let other = c .before .before .before .before in
+    let start = other .before .before .before in
+    rw (
+      c .advance .ensures,
+      c .before .seen-of .ensures,
+      toZ-ofZ (x-fits start),
+      other .place-of2 .ensures,
+      other .before .before .place-of .ensures,
+      ready-advance _ _ _ _ _ (start .pre .1),
+    )
+
 returns : tie.Need-returns
 unfolding takenOf
 returns c =
-    let a = c .before .before in
-    let other = a .before .before .before .before in
-    let f : SFits w32 (a .any-line .result .x) = search needs in
-    rw (
-      toZ-ofZ f,
-      a .any-line .ensures,
-      a .before .seen-of .ensures,
-      toZ-ofZ (x-fits (other .before .before .before)),
-      other .place-of2 .ensures,
-      other .before .before .place-of .ensures,
-    )
+    let d = c .before .before in
+    let own = d .before .before .before .before .before .before in
+    let t = own .before .args .t1 in
+    let a = d .advance .result in
+    let f : SFits w32 (a .x) = search needs in
+    ap
+    (λ (x : ℤ). record {
+      table = record { algorithm = t .algorithm; n = t .n; x = x; rows = set (t .rows) (own .place-of .result) (a .row) };
+      mark = a .mark;
+      stop = a .stop;
+    })
+    (toZ-ofZ f)
+    ∙ rw (advanced d, own .place-of .ensures)
 
 pub taken-spec : {M : Type 1} → statement M
 taken-spec =
@@ -80,7 +103,7 @@ taken-spec =
     mul-other
     element-copy-out-other
     seen-of-requires
-    any-line-requires
+    advance-requires
     mul-row
     element-set-from-row
     returns)

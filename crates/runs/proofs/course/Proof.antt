@@ -12,10 +12,11 @@ use Rattle.fields.specs.Refusals.{noRefusal, badProcessNumber}
 use Rattle.table.specs.WellFormed.{rowOf}
 use Rattle.fields.proofs.Tests.{passed, failed}
 use Rattle.table.proofs.Held.{held-sized}
-use Rattle.machine.specs.Ready.{Ready}
+use Rattle.rows.specs.Ready.{Ready}
+use Rattle.rows.proofs.Ready.{ready-advance}
 use Rattle.machine.specs.Step.{putBack, takenOf, stepOf}
 use Rattle.machine.specs.declared.Stepped.{Stepped}
-use Rattle.machine.proofs.Ready.{ready, ready-advance}
+use Rattle.machine.proofs.Ready.{ready}
 use Rattle.machine.proofs.Steps.{step-taken, step-bad-number, step-mark-most}
 use Rattle.runs.proofs.Going.{Going, begins, moved-few, entered-few, answered, written, takes, stops, ends}
 use borrow.Author.Needs.{needs}
@@ -150,8 +151,8 @@ note-entry-requires c κs =
     let g = turn .before .loop .inv in
     omega (arith, entered-few g, g .same, turn .loop-test .taken, turn .before .before .before .before .pre .1)
 
-count-of-requires : tie.Need-count-of-requires Inv-loop μ-loop
-count-of-requires c κs = search needs
+cast-mark : tie.Need-cast-mark Inv-loop μ-loop
+cast-mark c = search needs
 
 add-moved : tie.Need-add-moved Inv-loop μ-loop
 add-moved c =
@@ -159,7 +160,7 @@ add-moved c =
     let turn = answer .before .before .before .before .before .before .before .before .before .before in
     let one : answer .advance .result .mark ≤ 1 = rw (← ap (λ (r : Stepped). r .mark) (stepped answer)) (step-mark-most _ _) in
     let few = moved-few (turn .before .loop .inv) in
-    omega (arith, c .count-of .ensures, one, few, turn .loop-test .taken, turn .before .before .before .before .good)
+    omega (arith, one, few, turn .loop-test .taken, turn .before .before .before .before .good)
 
 mul-row : tie.Need-mul-row Inv-loop μ-loop
 mul-row c =
@@ -187,7 +188,7 @@ loop-again c =
     let step = stepped answer in
     let stop = ap (λ (r : Stepped). r .stop) step ∙ note .before .before .if2 .left in
     let g = takes (turn .before .loop .inv) (turn .loop-test .taken) (turn .before .before .before .before .pre .1) stop in
-    rw (note .note-entry .ensures .0, note .note-entry .ensures .1, count .count-of .ensures, toZ-ofZ x, own .place-of .ensures)
+    rw (note .note-entry .ensures .0, note .note-entry .ensures .1, toZ-ofZ x, own .place-of .ensures)
     (rw step at g)
 
 ended-requires-3 : tie.Need-ended-requires-3 Inv-loop μ-loop
@@ -227,7 +228,7 @@ course-spec =
     same-length-2
     returns-2
     note-entry-requires
-    count-of-requires
+    cast-mark
     add-moved
     mul-row
     element-set-from-row

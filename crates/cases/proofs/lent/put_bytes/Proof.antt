@@ -2,15 +2,16 @@
 use Prim.Native.Nat.{_-_, _≤_}
 use mathlib.Core.Path.{_≡_}
 use lib.ListN.{length}
+use native.Mathlib.Omega.{arith}
 use borrow.Author.Needs.{needs}
 use Rattle.cases.proofs.lent.put_bytes.Statement.{statement}
 use Rattle.cases.proofs.lent.put_bytes.Tie as tie
 
 abbrev Inv-loop : tie.InvT-loop
-Inv-loop word bytes k₀ _ k-end k = (k ≤ k-end) × (k-end ≡ length bytes)
+Inv-loop word bytes k₀ k-end k = (k ≤ k-end) × (k-end ≡ length bytes)
 
 abbrev μ-loop : tie.MeasureT-loop
-μ-loop word bytes k₀ _ k-end k = k-end - k
+μ-loop word bytes k₀ k-end k = k-end - k
 
 put-requires : tie.Need-put-requires Inv-loop μ-loop
 put-requires c κs = search needs
@@ -18,14 +19,14 @@ put-requires c κs = search needs
 loop-holds : tie.Need-loop-holds Inv-loop μ-loop
 loop-holds c = search needs
 
-slice-aggregate-put-byte : tie.Need-slice-aggregate-put-byte Inv-loop μ-loop
-slice-aggregate-put-byte c = search needs
+shared-slice-read-put-number : tie.Need-shared-slice-read-put-number Inv-loop μ-loop
+shared-slice-read-put-number c = search needs
 
-shared-slice-read-put-byte : tie.Need-shared-slice-read-put-byte Inv-loop μ-loop
-shared-slice-read-put-byte c = search needs
+cast-put-number : tie.Need-cast-put-number Inv-loop μ-loop
+cast-put-number c = record { sfits = omega (arith, c .shared-slice-known3 .given (c .before .before .loop .k) .fits) }
 
-put-byte-requires : tie.Need-put-byte-requires Inv-loop μ-loop
-put-byte-requires c κs = search needs
+put-number-requires : tie.Need-put-number-requires Inv-loop μ-loop
+put-number-requires c κs = search needs
 
 add-k : tie.Need-add-k Inv-loop μ-loop
 add-k c = search needs
@@ -50,9 +51,9 @@ put-bytes-spec =
     μ-loop
     put-requires
     loop-holds
-    slice-aggregate-put-byte
-    shared-slice-read-put-byte
-    put-byte-requires
+    shared-slice-read-put-number
+    cast-put-number
+    put-number-requires
     add-k
     loop-less
     loop-again

@@ -1,0 +1,4 @@
+pub mod ByLine
+pub mod Keeps
+pub mod Marks
+pub mod Ready

@@ -1,0 +1,13 @@
+-- `is_ready` meets its contract.
+use borrow.Author.Needs.{needs}
+use Rattle.rows.proofs.is_ready.Statement.{statement}
+use Rattle.rows.proofs.is_ready.Tie as tie
+
+count-ok-requires : tie.Need-count-ok-requires
+count-ok-requires c κs = search needs
+
+returns : tie.Need-returns
+returns c = rw (c .before .count-ok .ensures)
+
+pub is-ready-spec : {M : Type 1} → statement M
+is-ready-spec = tie.close (tie.spec count-ok-requires returns)

@@ -1,0 +1,3 @@
+pub mod Setters
+pub mod Lines
+pub mod Ready

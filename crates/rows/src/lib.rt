@@ -1,0 +1,54 @@
+// One step over a row, on either machine of document 01: lines 1 to 10.
+mod lines;
+
+ghost use mathlib.Core.Path.{_≡_};
+ghost use Rattle.rows.specs.Lines.{isReady, rowStepOf};
+use fields::MOST_PROCESSES;
+use fields::Value;
+use fields::refusal;
+use lines::any_line;
+use lines::kept;
+use table::Row;
+
+// What a step sees outside its own row: of the process at its index the choosing flag and the token, and X.
+pub struct Seen {
+    pub choosing: u8,
+    pub token: i32,
+    pub x: i32,
+}
+
+// What comes of a step: its own row, X, the mark and the stop number.
+pub struct Advanced {
+    pub row: Row,
+    pub x: i32,
+    pub mark: u8,
+    pub stop: u8,
+}
+
+// What a step sees: X, and of the row at its index the choosing flag and the token.
+pub fn seen_of(x: Value, other: Row) -> Seen
+    ensures { λ s. ⌜ s ≡ record { choosing = other .choosing; token = other .token; x = x .0 } ⌝ }
+{
+    Seen {
+        choosing: other.choosing,
+        token: other.token,
+        x: x.0,
+    }
+}
+
+// Whether n is a count, and the row's index one, that a table may have.
+fn is_ready(n: u8, r: Row) -> bool
+    ensures { λ b. ⌜ b ≡ isReady n r ⌝ }
+{
+    fields::count_ok(n) & (r.index <= MOST_PROCESSES)
+}
+
+// One step of process i, whose row is r and who sees s: what `step` does to a row of its table. Refusal 3 for a row that no table has.
+pub fn advance(algorithm: u8, n: u8, i: u8, s: Seen, r: Row) -> Advanced
+    ensures { λ a. ⌜ a ≡ rowStepOf algorithm n i s r ⌝ }
+{
+    if !is_ready(n, r) {
+        return kept(refusal::NOT_WELL_FORMED, s, r);
+    }
+    any_line(algorithm, n, i, s, r)
+}
