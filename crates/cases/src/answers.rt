@@ -80,7 +80,7 @@ pub(crate) fn put_run(body: &[u8]) {
     );
 }
 
-// The text is lent as an array, since that it has kept its length is known of an array by its type.
+// The text comes as an array: that it has kept its length over the call is known by its type.
 fn put_text(text: &[u8; LISTING_ROOM], length: usize) {
     put(first(text, length));
 }

@@ -41,7 +41,7 @@ pub(crate) fn put_two(words: &[u8], first: usize, second: usize) {
     put_words(words, &[first, second]);
 }
 
-// A number without its sign. `!` of one below zero is how far it is from -1, which is no number too large even for the smallest.
+// A number without its sign. `!` of one below zero is how far it is from -1, which fits even where the number is the smallest.
 fn magnitude(number: i32) -> u64 {
     if number < 0 {
         (!number) as u64 + 1

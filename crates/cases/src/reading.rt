@@ -1,4 +1,4 @@
-// The numbers and the table in a case file.
+// The numbers and the table in a case file: plain fields and not the stored form, so that a table that is not well formed can be a case.
 ghost use Prim.Native.Nat.{_+_, _<_, _≤_};
 ghost use lib.ListN.{length};
 use fields::NONE;
@@ -9,7 +9,7 @@ use table::Table;
 // How many bytes a case file may have after its kind.
 pub(crate) const LONGEST_BODY: usize = 65535;
 
-// How many it has for a number, and for each part of a table.
+// How many it has for a number, and for each part of a table. They are not the lengths that `writer` has under these names, of records.
 const NUMBER_LENGTH: usize = 4;
 
 const CELLS_LENGTH: usize = SLOTS * NUMBER_LENGTH;

@@ -4,8 +4,8 @@ ghost use Rattle.runs.specs.Run.{runOf};
 use libc::STDOUT_FILENO;
 use table::Table;
 
-// How many processes wait after a schedule. What it promises is said in the definition that the promise of `run` cites, and follows from that
-// promise: proofs/waiting_after/Proof.antt has the proof.
+// How many processes wait after a schedule. What it promises is said in the definition that the promise of `run` cites, and follows from
+// that promise: proofs/waiting_after/Proof.antt has the proof.
 fn waiting_after(t: Table, schedule: &[u8], entries: &mut [u8]) -> usize
     ensures { λ w. ⌜ w ≡ runOf t (now (schedule .entry)) (now (entries .entry)) .waiting ⌝ }
 {

@@ -6,7 +6,7 @@ use Rattle.fields.specs.Numbers.{scheduleLimit}
 abbrev pub entryRoom : ℕ
 entryRoom = 10
 
--- the first and the last line: words of less than fifty bytes, and seven numbers
+-- the first and the last line: words of less than fifty bytes, and seven numbers of twenty digits at most
 abbrev pub restRoom : ℕ
 restRoom = 200
 

@@ -22,7 +22,7 @@ use text::put_numbered;
 // The longest line of an entry: a word of six bytes, the three digits of a byte at most, and the line feed.
 const ENTRY_ROOM: usize = 10;
 
-// The first and the last line together: words of less than fifty bytes, and seven numbers.
+// The first and the last line together: words of less than fifty bytes, and seven numbers of twenty digits at most.
 const REST_ROOM: usize = 200;
 
 // Room for the longest text: a line for each byte of the schedule, and the rest.

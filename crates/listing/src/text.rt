@@ -21,6 +21,7 @@ fn put_word(text: &mut [u8; LISTING_ROOM], at: usize, word: &[u8]) -> usize
     at + k
 }
 
+// A number as `io::decimal` takes it.
 fn wide(n: usize) -> u64
     ensures { λ r. ⌜ r ≡ n ⌝ }
 {

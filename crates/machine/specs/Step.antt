@@ -31,7 +31,7 @@ takenOf t i =
 abbrev pub refusedStep : Table → ℕ → Stepped
 refusedStep t stop = record { table = t; mark = 0; stop = stop }
 
--- "Step: 3, 4, 5."
+-- "Step: 3, 4, 5.": 5 is that of line 4
 unfoldable pub stepOf : Table → ℕ → Stepped
 stepOf t i =
     cond (wellFormed t)

@@ -1,6 +1,6 @@
 -- Every public call of the library, with what a reader may rely on of it. Of a call C, `C.Reads.Asked` and `C.Reads.Learnt` are what its
--- contract asks and what it promises, as its callers have them: the promise here is the contract's own. `C.Kinds` are its parameters and its
--- result, and the number before them is that of its lifetimes.
+-- contract asks and what it promises, as its callers have them: the promise here is the contract's own. `C.Kinds` are its parameters and
+-- its result, and the number before them is that of its lifetimes.
 use denote.Ref.{now}
 use Rattle.fields.proofs.Value
 use Rattle.fields.proofs.number_within

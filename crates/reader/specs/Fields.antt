@@ -35,7 +35,8 @@ countPlace = 2
 abbrev pub xPlace : ℕ
 xPlace = 3
 
--- The records of process i begin where a form of the processes before it would end. Their fields stand after the kind and the process number.
+-- The records of process i begin where a form of the processes before it would end. Their fields stand after the kind and the process
+-- number.
 abbrev pub rowPlace : ℕ → ℕ
 rowPlace i = formLength (i - 1)
 

@@ -11,6 +11,7 @@ const ALL_BITS: u32 = 4294967295;
 // The bits from here on are those of the numbers below zero.
 const SIGN_BIT: u32 = 2147483648;
 
+// The number of some bits. One below zero is `!` of how far it is from -1.
 fn number_of(bits: u32) -> Value
     ensures { λ v. ⌜ v .0 ≡ numberOf bits ⌝ }
 {

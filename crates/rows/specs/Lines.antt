@@ -24,6 +24,7 @@ moves x r = record { row = r; x = x; mark = 1; stop = noRefusal }
 abbrev pub waits : Seen → Row → Advanced
 waits s r = record { row = r; x = s .x; mark = 0; stop = noRefusal }
 
+-- a step that is refused changes nothing either
 abbrev pub refuses : ℕ → Seen → Row → Advanced
 refuses stop s r = record { row = r; x = s .x; mark = 0; stop = stop }
 
@@ -90,7 +91,7 @@ line9 s r = moves (s .x) (withLine 10 r)
 abbrev pub line10 : Seen → Row → Advanced
 line10 s r = moves (s .x) (withLine 1 (withToken none r))
 
--- "What a step does is decided by the line, 1 to 10"; no well-formed row stands at another.
+-- "What a step does is decided by the line, 1 to 10". No well-formed row stands at another; there the step waits.
 unfoldable pub lineStep : ℕ → ℕ → ℕ → ℕ → Seen → Row → Advanced
 lineStep line algorithm n i s r =
     cond (eqb line 1) (line1 s r)
@@ -113,6 +114,6 @@ advanceOf algorithm n i s r = lineStep (r .line) algorithm n i s r
 abbrev pub isReady : ℕ → Row → Bool
 isReady n r = countOk n && leb (r .index) slots
 
--- the answer of `advance`: a row that no table has is refused by 3
+-- the answer of `advance`: a count or an index that no table has is refused by 3
 unfoldable pub rowStepOf : ℕ → ℕ → ℕ → Seen → Row → Advanced
 rowStepOf algorithm n i s r = cond (isReady n r) (advanceOf algorithm n i s r) (refuses notWellFormed s r)

@@ -36,14 +36,15 @@ pub fn seen_of(x: Value, other: Row) -> Seen
     }
 }
 
-// Whether n is a count, and the row's index one, that a table may have.
+// Whether n is a count, and the row's index one, that a table may have. No line asks more of its row.
 fn is_ready(n: u8, r: Row) -> bool
     ensures { λ b. ⌜ b ≡ isReady n r ⌝ }
 {
     fields::count_ok(n) & (r.index <= MOST_PROCESSES)
 }
 
-// One step of process i, whose row is r and who sees s: what `step` does to a row of its table. Refusal 3 for a row that no table has.
+// One step of process i, whose row is r and who sees s: what `step` does to a row of its table. Refusal 3 for a count or an index that no
+// table has, then 5; at a line that is none of 1 to 10 it waits.
 pub fn advance(algorithm: u8, n: u8, i: u8, s: Seen, r: Row) -> Advanced
     ensures { λ a. ⌜ a ≡ rowStepOf algorithm n i s r ⌝ }
 {

@@ -130,7 +130,7 @@ fn takes_token(token: Value, r: Row) -> Row
     w
 }
 
-// 4: token takes the next token; pivot and read cells become -1; line 5. Where there is none, by refusal 5, so is this step refused.
+// 4: token takes the next token; pivot and read cells become -1; line 5. Where the next token is refused, by 5, so is the step.
 fn line_4(algorithm: u8, n: u8, s: Seen, r: Row) -> Advanced
     requires { ⌜ Count n ⌝ }
     ensures { λ a. ⌜ a ≡ line4 algorithm n s r ⌝ }
@@ -266,7 +266,7 @@ fn critical(s: Seen, r: Row) -> Advanced
     }
 }
 
-// Lines 1 to 10: one step of process i, whose row is r and who sees s.
+// Lines 1 to 10: one step of process i, whose row is r and who sees s. No well-formed row stands at another line; there it waits.
 pub(crate) fn any_line(algorithm: u8, n: u8, i: u8, s: Seen, r: Row) -> Advanced
     requires { ⌜ Ready n r ⌝ }
     ensures { λ a. ⌜ a ≡ advanceOf algorithm n i s r ⌝ }

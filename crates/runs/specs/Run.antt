@@ -36,7 +36,8 @@ standsAt t stop = record { turns = []; table = t; stop = stop }
 abbrev pub begunBy : List Turn → Course → Course
 begunBy turns c = record { turns = turns ++ c .turns; table = c .table; stop = c .stop }
 
--- "A run does the steps of demand 2 one after another." "The run takes them in order and stops at the first byte refused."
+-- "A run does the steps of demand 2 one after another." "The run takes them in order and stops at the first byte refused." "4 and 5 of run
+-- keep the steps and entries before that byte."
 unfoldable pub courseOf : Table → List ℕ → Course
 courseOf t [] = standsAt t noRefusal
 courseOf t (i ∷ later) =

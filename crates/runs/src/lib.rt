@@ -102,8 +102,8 @@ fn note_entry(entries: &mut [u8], count: usize, line: u8, i: u8) -> usize
     count
 }
 
-// The bytes of a schedule, taken one after another up to the first that is refused. A step touches its own row and X alone, so that a row
-// is what is taken out of the table and put back.
+// The bytes of a schedule, taken one after another up to the first that is refused. A step keeps the table well formed, so it is not
+// checked again for each; and it touches its own row and X alone, so a row is what is taken out of the table and put back.
 fn course(start: Table, schedule: &[u8], entries: &mut [u8]) -> Ran
     requires { ⌜ (wellFormed start ≡ true) × (length (now schedule) ≤ length (now entries)) ⌝ }
     ensures { λ r. ⌜ r ≡ answerOf (courseOf start (now (schedule .entry))) ⌝ }

@@ -1,4 +1,5 @@
--- Lent buffers: what a call leaves in one that it fills from the front, and what functions that fill one piece after piece promise.
+-- Lent buffers, for the crates that fill one: what a call leaves in a buffer that it fills from the front, and what functions that fill one
+-- piece after piece promise.
 use Prim.Native.Nat.{ℕ, _+_}
 use mathlib.Core.Path.{_≡_}
 use mathlib.Core.List.{List, _++_}

@@ -13,6 +13,7 @@ use fields::SLOTS;
 use fields::UNBOUNDED;
 use fields::refusal;
 
+// "A row has a line, an index, a choosing flag, a token, a pivot, and sixteen read cells."
 pub struct Row {
     pub line: u8,
     pub index: u8,
@@ -22,6 +23,7 @@ pub struct Row {
     pub cells: [i32; SLOTS],
 }
 
+// "Algorithm, n, X, and sixteen rows."
 pub struct Table {
     pub algorithm: u8,
     pub n: u8,

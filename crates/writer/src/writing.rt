@@ -33,6 +33,7 @@ pub fn form_length(n: u8) -> usize
     HEAD_LENGTH + (ROW_LENGTH + CELLS_LENGTH) * (n as usize)
 }
 
+// Here and in `put_row` a place has the name of the field that goes there.
 fn put_head(buffer: &mut [u8], t: Table) -> usize
     requires { ⌜ headLength ≤ length (now buffer) ⌝ }
     ensures { λ next. ⌜ Written (now (buffer .entry)) 0 (headRecord t) (now (buffer .exit)) next ⌝ }
