@@ -20,15 +20,15 @@ use Rattle.table.specs.declared.Table.{Table}
 use Rattle.fields.proofs.Tests.{_and_, within-low, within-high, every-at}
 use Rattle.table.proofs.WellFormed.{fresh-well-formed}
 use Rattle.rows.specs.Setters.{withLine, withIndex, withToken}
-use Rattle.rows.specs.Lines.{line4, lineStep, advanceOf}
+use Rattle.rows.specs.Lines.{line4, lineStep, anyLine}
 use Rattle.machine.specs.Step.{takenOf, stepOf}
 use Rattle.runs.specs.Run.{Course, courseOf, those, movedIn, waitedIn, entriesIn, enteredIn, answerOf, runRefusal, runOf, bufferOf}
 use Rattle.machine.specs.declared.Stepped.{Stepped}
 use Rattle.runs.specs.declared.Ran.{Ran}
 use Rattle.machine.proofs.Steps.{step-taken}
 use Rattle.runs.proofs.Runs.{run-answer, run-buffer}
-use Rattle.demands.specs.Bench.{onBoth, forEachCount, lentFor, ran, entered, stepWaits, atLine4, alternating, threeOnes}
-use Rattle.demands.specs.Bench.{benchCases, allHold}
+use Rattle.demands.specs.Bench.{onBoth, forEachCount, lentFor, ran, entered, stepWaits, atLine4, alternating, threeOnes, benchCases}
+use Rattle.demands.specs.Bench.{allHold}
 use Rattle.demands.specs.Bench as cases
 use Rattle.demands.proofs.Computed.{numbers, plain, fresh-plain, rules, tokens, steps, runs, plainly}
 
@@ -162,7 +162,7 @@ unfolding rules
 at-limit = refl
 
 last-token : forEachCount cases.lastToken
-unfolding tokens line4 lineStep advanceOf takenOf
+unfolding tokens line4 lineStep anyLine takenOf
 last-token n ok =
     let below = taken (pos 999_999) below-limit in
     ((refl, ap (λ (s : Stepped). s .stop) below, ap (λ (s : Stepped). rowOf (s .table) 1 .token) below), taken (pos tokenLimit) at-limit)

@@ -7,20 +7,18 @@ use lib.Dec.{eqb}
 use Rattle.fields.specs.Tests.{within, every, howMany}
 use Rattle.fields.specs.Numbers.{limitOf}
 use Rattle.fields.specs.Refusals.{noRefusal}
-use Rattle.fields.specs.Rules.{algorithmOk, countOk, lineOk, indexOk, choosingOk, tokenOk, pivotOk, mayHold}
-use Rattle.table.specs.WellFormed.{rowOf}
-use Rattle.fields.specs.Rules.{cellOk}
-use Rattle.table.specs.WellFormed.{cellRule, cellsOk, rowOk, rowRule, rowsOk, wellFormed}
+use Rattle.fields.specs.Rules.{algorithmOk, countOk, lineOk, indexOk, choosingOk, tokenOk, pivotOk, mayHold, cellOk}
+use Rattle.table.specs.WellFormed.{rowOf, cellRule, cellsOk, rowOk, rowRule, rowsOk, wellFormed}
 use Rattle.table.specs.Fresh.{freshTable}
 use Rattle.table.specs.Sized.{Sized}
 use Rattle.table.specs.declared.Table.{Table}
 use Rattle.fields.proofs.Tests.{and-halves}
 use Rattle.table.proofs.WellFormed.{fresh-well-formed, fresh-sized}
 use Rattle.tokens.specs.Tokens.{remainder, largest, nextUb, shifted, shiftedCell, nextB, beforeUb, beforeB, nextToken, goesBefore}
-use Rattle.rows.specs.Lines.{nextOther, goesOn, line2, line4, line5, line6, line7, lineStep, advanceOf}
+use Rattle.rows.specs.Lines.{nextOther, goesOn, line2, line4, line5, line6, line7, lineStep, anyLine}
 use Rattle.machine.specs.Step.{takenOf, stepOf}
-use Rattle.runs.specs.Run.{Turn, Course, standsAt, begunBy, courseOf, those, movedIn, waitedIn, entriesIn, enteredIn}
-use Rattle.runs.specs.Run.{runRefusal, runOf, bufferOf}
+use Rattle.runs.specs.Run.{Turn, Course, standsAt, begunBy, courseOf, those, movedIn, waitedIn, entriesIn, enteredIn, runRefusal, runOf}
+use Rattle.runs.specs.Run.{bufferOf}
 use Rattle.machine.proofs.Steps.{step-taken, step-machine, step-well-formed, step-sized}
 
 -- whether each byte is the number of one of n processes
@@ -64,7 +62,7 @@ tokens = tt
 
 -- a step of a table that is known to be well formed
 taken : Unit {0}
-unfolding tokens nextOther goesOn line2 line4 line5 line6 line7 lineStep advanceOf takenOf
+unfolding tokens nextOther goesOn line2 line4 line5 line6 line7 lineStep anyLine takenOf
 taken = tt
 
 unfoldable pub steps : Unit {0}

@@ -19,14 +19,14 @@ use Rattle.table.proofs.WellFormed.{RowRules, is-none}
 use Rattle.tokens.specs.Tokens.{nextToken, goesBefore}
 use Rattle.tokens.specs.Answers.{isAboveLimit}
 use Rattle.rows.specs.Setters.{withLine, withIndex, withChoosing, withCell}
-use Rattle.rows.specs.Lines.{waits, nextOther, goesOn, passes, lineStep, advanceOf}
-use Rattle.rows.specs.Lines.{line1, line2, line3, line4, line5, line6, line7, line8, line9, line10}
+use Rattle.rows.specs.Lines.{waits, nextOther, goesOn, passes, lineStep, anyLine, line1, line2, line3, line4, line5, line6, line7, line8}
+use Rattle.rows.specs.Lines.{line9, line10}
 use Rattle.rows.specs.Lines as machine
 use Rattle.rows.specs.declared.Seen.{Seen}
 use Rattle.rows.specs.declared.Advanced.{Advanced}
 use Rattle.theory.proofs.Tokens as theory
-use Rattle.theory.proofs.Model.{Place, at1, at2, at3, at4, at5, at6, at7, at8, at9, at10}
-use Rattle.theory.proofs.Model.{State, isChoosing, goes, afterCell, movesAt, rowAfter, xAfter}
+use Rattle.theory.proofs.Model.{Place, at1, at2, at3, at4, at5, at6, at7, at8, at9, at10, State, isChoosing, goes, afterCell, movesAt}
+use Rattle.theory.proofs.Model.{rowAfter, xAfter}
 use Rattle.theory.proofs.Model as model
 use Rattle.demands.proofs.Views.{tokenOf, placeOf, rowView, machineOf}
 use Rattle.demands.proofs.From1.{from1-set-view, each-cell, all-none-view}
@@ -207,9 +207,9 @@ module _ (algorithm n i : ℕ) (s : State) where
     line10-view = moved at10 refl refl (rw (shows .own))
 
     -- the step, whatever the line
-    pub advance-view : RowRules (topOf algorithm n) n i r → advanceOf algorithm n i seen r .stop ≡ noRefusal
-        → Follows (rowView r .place) (advanceOf algorithm n i seen r)
-    unfolding advanceOf lineStep
+    pub advance-view : RowRules (topOf algorithm n) n i r → anyLine algorithm n i seen r .stop ≡ noRefusal
+        → Follows (rowView r .place) (anyLine algorithm n i seen r)
+    unfolding anyLine lineStep
     advance-view rules =
         let range = line-range n i (r .line) (rules .line) in
         each-line

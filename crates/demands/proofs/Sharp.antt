@@ -18,8 +18,8 @@ use Rattle.rows.specs.Setters.{withLine, withIndex, withChoosing, withToken}
 use Rattle.runs.specs.Run.{Course, courseOf}
 use Rattle.demands.specs.Agreement.{f, isRemainder, rowAgrees, rowAtAgrees, agree, meets}
 use Rattle.demands.specs.ForEver.{Holds, aheadOf}
-use Rattle.demands.specs.Sharp.{after, secondToken, NotEmpty, NotModuloOneLess, sevenEach, TwoAtLine7}
-use Rattle.demands.specs.Sharp.{sixEach, threeTokens, farApart, NotNearer}
+use Rattle.demands.specs.Sharp.{after, secondToken, NotEmpty, NotModuloOneLess, sevenEach, TwoAtLine7, sixEach, threeTokens}
+use Rattle.demands.specs.Sharp.{farApart, NotNearer}
 use Rattle.demands.proofs.Computed.{fresh-plain, plainly}
 
 -- a row that has just taken a token

@@ -14,7 +14,7 @@ use Rattle.table.specs.declared.Row.{Row}
 use Rattle.table.specs.declared.Table.{Table}
 use Rattle.fields.proofs.Tests.{by-test, within-yes}
 use Rattle.table.proofs.WellFormed.{table-rules}
-use Rattle.rows.specs.Lines.{passes, line2, line4, line5, line6, line7, advanceOf}
+use Rattle.rows.specs.Lines.{passes, line2, line4, line5, line6, line7, anyLine}
 use Rattle.rows.specs.declared.Seen.{Seen}
 use Rattle.rows.specs.declared.Advanced.{Advanced}
 use Rattle.rows.proofs.ByLine.{by-line}
@@ -67,7 +67,7 @@ module _ (t : Table) (i : ℕ) (w : wellFormed t ≡ true) (z : Sized t) (accept
   taken = step-taken t i w (within-yes 1 (t .n) i low high)
 
   abbrev advanced : Advanced
-  advanced = advanceOf (t .algorithm) (t .n) i (seenOf t (rowOf t i)) (rowOf t i)
+  advanced = anyLine (t .algorithm) (t .n) i (seenOf t (rowOf t i)) (rowOf t i)
 
   -- what it sees is in the view
   within-slots : {j : ℕ} → j ≤ t .n → j ≤ slots
@@ -124,7 +124,7 @@ step-seen {algorithm} t i for accepted =
 abbrev Accepted : Advanced → Type 0
 Accepted a = a .stop ≡ noRefusal
 
-bounded-advances : (n i : ℕ) (seen : Seen) (r : Row) → Accepted (advanceOf bounded n i seen r)
+bounded-advances : (n i : ℕ) (seen : Seen) (r : Row) → Accepted (anyLine bounded n i seen r)
 unfolding line2 line4 line5 line6 line7
 bounded-advances n i seen r =
     by-line bounded n i seen r Accepted

@@ -16,8 +16,8 @@ use Rattle.fields.proofs.Tests.{by-test, within-high}
 use Rattle.tokens.specs.Tokens.{remainder, larger, nextUb, nextB, beforeUb, beforeB, nextToken, goesBefore}
 use Rattle.tokens.specs.Tokens as machine
 use Rattle.theory.proofs.Counting.{largest}
-use Rattle.theory.proofs.Tokens.{Token, held, numberOf, number-of-held, modulus, ahead, unboundedMachine, boundedMachine}
-use Rattle.theory.proofs.Tokens.{nextUnbounded, nextBounded, beforeUnbounded, beforeBounded}
+use Rattle.theory.proofs.Tokens.{Token, held, numberOf, number-of-held, modulus, ahead, unboundedMachine, boundedMachine, nextUnbounded}
+use Rattle.theory.proofs.Tokens.{nextBounded, beforeUnbounded, beforeBounded}
 use Rattle.theory.proofs.Tokens as theory
 use Rattle.demands.proofs.Views.{tokenOf, from1, cellsView, machineOf}
 use Rattle.demands.proofs.From1.{from1-map}

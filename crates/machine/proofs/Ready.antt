@@ -8,7 +8,7 @@ use Rattle.fields.specs.Numbers.{slots}
 use Rattle.table.specs.WellFormed.{rowOf, wellFormed}
 use Rattle.table.specs.declared.Table.{Table}
 use Rattle.fields.proofs.Tests.{within-low, within-high}
-use Rattle.table.proofs.WellFormed.{table-rules, index-range}
+use Rattle.table.proofs.WellFormed.{table-rules, line-range, index-range}
 use Rattle.rows.specs.Ready.{Ready}
 
 pub ready : (t : Table) (i : ℕ) → wellFormed t ≡ true → within 1 (t .n) i ≡ true → (i ≤ slots) × Ready (t .n) (rowOf t i)
@@ -17,4 +17,5 @@ ready t i w p =
     let low = within-low 1 (t .n) i p in
     let high = within-high 1 (t .n) i p in
     let index = index-range (t .n) i _ _ (rules .rows i low (omega arith) .index) in
-    (omega arith, record { count = record { some = rules .some; most = rules .most }; index = omega arith })
+    let line = line-range (t .n) i _ high (rules .rows i low (omega arith) .line) in
+    (omega arith, record { count = record { some = rules .some; most = rules .most }; index = omega arith; line = line })

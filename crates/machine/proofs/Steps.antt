@@ -16,7 +16,7 @@ use Rattle.table.specs.declared.Row.{Row}
 use Rattle.table.specs.declared.Table.{Table}
 use Rattle.fields.proofs.Tests.{by-test, within-low, within-high}
 use Rattle.table.proofs.WellFormed.{TableRules, RowRules, table-rules, well-formed, token-range}
-use Rattle.rows.specs.Lines.{advanceOf}
+use Rattle.rows.specs.Lines.{anyLine}
 use Rattle.rows.specs.declared.Advanced.{Advanced}
 use Rattle.rows.proofs.Keeps.{Sees, Kept, advance-keeps}
 use Rattle.rows.proofs.Marks.{Still, Moved, Marked, advance-marked}
@@ -48,7 +48,7 @@ module _ (t : Table) (i : ℕ) (w : wellFormed t ≡ true) where
 
 -- the step of process i, over its own row
 abbrev advanced : Table → ℕ → Advanced
-advanced t i = advanceOf (t .algorithm) (t .n) i (seenOf t (rowOf t i)) (rowOf t i)
+advanced t i = anyLine (t .algorithm) (t .n) i (seenOf t (rowOf t i)) (rowOf t i)
 
 -- The rows after row i is put back: row i is the one that was put, and the others are as they were.
 module _ (t : Table) (i : ℕ) (a : Advanced) (low : 1 ≤ i) where

@@ -7,7 +7,7 @@ use Rattle.fields.specs.Refusals.{notWellFormed, badProcessNumber}
 use Rattle.table.specs.WellFormed.{rowOf, wellFormed}
 use Rattle.table.specs.declared.Row.{Row}
 use Rattle.table.specs.declared.Table.{Table}
-use Rattle.rows.specs.Lines.{advanceOf}
+use Rattle.rows.specs.Lines.{anyLine}
 use Rattle.rows.specs.declared.Seen.{Seen}
 use Rattle.rows.specs.declared.Advanced.{Advanced}
 use Rattle.machine.specs.declared.Stepped.{Stepped}
@@ -24,7 +24,7 @@ putBack t i a = record { algorithm = t .algorithm; n = t .n; x = a .x; rows = se
 -- The step of process i of a well-formed table, i being 1 to n.
 unfoldable pub takenOf : Table → ℕ → Stepped
 takenOf t i =
-    let a = advanceOf (t .algorithm) (t .n) i (seenOf t (rowOf t i)) (rowOf t i) in
+    let a = anyLine (t .algorithm) (t .n) i (seenOf t (rowOf t i)) (rowOf t i) in
     record { table = putBack t i a; mark = a .mark; stop = a .stop }
 
 -- "On refusal step returns the given table and the mark 0"

@@ -16,8 +16,8 @@ use Rattle.writer.specs.Form.{encode, formLength}
 use Rattle.reader.specs.Fields.{byteAt, tableIn}
 use Rattle.reader.specs.Reading.{refusalOf, firstFault, checksOf, answerTo, readOf}
 use Rattle.reader.specs.declared.Fault.{Fault}
-use Rattle.reader.specs.declared.Fault.the-variants.{TooShort, TooLong, Kind, HeadField, Process}
-use Rattle.reader.specs.declared.Fault.the-variants.{Line, Index, Choosing, Token, Pivot, Cell}
+use Rattle.reader.specs.declared.Fault.the-variants.{TooShort, TooLong, Kind, HeadField, Process, Line, Index, Choosing, Token}
+use Rattle.reader.specs.declared.Fault.the-variants.{Pivot, Cell}
 use Rattle.reader.specs.declared.Search.{Search}
 use Rattle.reader.specs.declared.Search.the-variants.{Found, Nothing}
 use Rattle.writer.proofs.Lengths.{encode-length}

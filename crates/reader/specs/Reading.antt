@@ -13,7 +13,8 @@ use Rattle.reader.specs.Fields.{byteAt, algorithmPlace, countPlace, xPla
 use Rattle.reader.specs.Fields.{tokenPlace, pivotPlace, cellsPlace, cellPlace, algorithmIn, countIn, topIn, xIn, lineIn, indexIn}
 use Rattle.reader.specs.Fields.{choosingIn, tokenIn, pivotIn, cellIn, tableIn}
 use Rattle.reader.specs.declared.Fault.{Fault}
-use Rattle.reader.specs.declared.Fault.the-variants.{TooShort, TooLong, Kind, HeadField, Process, Line, Index, Choosing, Token, Pivot, Cell}
+use Rattle.reader.specs.declared.Fault.the-variants.{TooShort, TooLong, Kind, HeadField, Process, Line, Index, Choosing}
+use Rattle.reader.specs.declared.Fault.the-variants.{Token, Pivot, Cell}
 use Rattle.reader.specs.declared.Search.{Search}
 use Rattle.reader.specs.declared.Search.the-variants.{Found, Nothing}
 use Rattle.reader.specs.declared.Restored.{Restored}

@@ -7,14 +7,14 @@ use borrow.Author.Tests.{eqb-true}
 use lib.Dec.{eqb}
 use Rattle.table.specs.declared.Row.{Row}
 use Rattle.fields.proofs.Tests.{by-test}
-use Rattle.rows.specs.Lines.{waits, line1, line2, line3, line4, line5, line6, line7, line8, line9, line10, lineStep, advanceOf}
+use Rattle.rows.specs.Lines.{waits, line1, line2, line3, line4, line5, line6, line7, line8, line9, line10, lineStep, anyLine}
 use Rattle.rows.specs.declared.Seen.{Seen}
 use Rattle.rows.specs.declared.Advanced.{Advanced}
 
 -- at a line that is known
 pub at-line : (algorithm n i : ℕ) (s : Seen) (r : Row) {k : ℕ} → r .line ≡ k
-    → advanceOf algorithm n i s r ≡ lineStep k algorithm n i s r
-unfolding advanceOf
+    → anyLine algorithm n i s r ≡ lineStep k algorithm n i s r
+unfolding anyLine
 at-line algorithm n i s r e = ap (λ (k : ℕ). lineStep k algorithm n i s r) e
 
 -- P holds of each line's step of a row at that line, and of waiting, which is the step at any other line
@@ -33,8 +33,8 @@ pub record EachLine (algorithm n i : ℕ) (s : Seen) (r : Row) (P : Advanced →
 
 -- the one case analysis over the lines
 pub by-line : (algorithm n i : ℕ) (s : Seen) (r : Row) (P : Advanced → Type 0) → EachLine algorithm n i s r P
-    → P (advanceOf algorithm n i s r)
-unfolding advanceOf lineStep
+    → P (anyLine algorithm n i s r)
+unfolding anyLine lineStep
 by-line algorithm n i s r P c =
     test 1 (c .at1)
     (test 2 (c .at2)
@@ -53,7 +53,7 @@ by-line algorithm n i s r P c =
 
 -- a row at none of the lines waits
 pub at-no-line : (algorithm n i : ℕ) (s : Seen) (r : Row) → ((k : ℕ) → 1 ≤ k → k ≤ 10 → r .line ≡ k → ⊥)
-    → advanceOf algorithm n i s r ≡ waits s r
+    → anyLine algorithm n i s r ≡ waits s r
 at-no-line algorithm n i s r off =
     by-line algorithm n i s r (λ (a : Advanced). a ≡ waits s r)
     (record {

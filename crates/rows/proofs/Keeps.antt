@@ -22,9 +22,8 @@ use Rattle.tokens.specs.Tokens.{nextToken}
 use Rattle.tokens.specs.Answers.{isAboveLimit}
 use Rattle.tokens.proofs.NextToken.{next-token-ok}
 use Rattle.rows.specs.Setters.{withLine, withIndex, withChoosing, withCell}
-use Rattle.rows.specs.Lines.{moves, refuses}
-use Rattle.rows.specs.Lines.{nextOther, goesOn, passes, advanceOf}
-use Rattle.rows.specs.Lines.{line1, line2, line3, line4, line5, line6, line7, line8, line9, line10}
+use Rattle.rows.specs.Lines.{moves, refuses, nextOther, goesOn, passes, anyLine, line1, line2, line3, line4, line5, line6, line7}
+use Rattle.rows.specs.Lines.{line8, line9, line10}
 use Rattle.rows.specs.declared.Seen.{Seen}
 use Rattle.rows.specs.declared.Advanced.{Advanced}
 use Rattle.rows.proofs.ByLine.{by-line}
@@ -265,7 +264,7 @@ module _ {algorithm n i : ℕ} {s : Seen} {r : Row} (some : 1 ≤ n) (most : n �
       (record { line = line-ok 1 refl; index = k .index; choosing = k .choosing; token = refl; pivot = k .pivot; cells = k .cells })
 
   -- the step, whatever the line
-  pub advance-keeps : Kept algorithm n i (advanceOf algorithm n i s r)
+  pub advance-keeps : Kept algorithm n i (anyLine algorithm n i s r)
   advance-keeps =
       by-line algorithm n i s r (Kept algorithm n i)
       (record {

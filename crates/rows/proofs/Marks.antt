@@ -11,8 +11,7 @@ use Rattle.fields.proofs.Tests.{by-test}
 use Rattle.tokens.specs.Tokens.{nextToken}
 use Rattle.tokens.specs.Answers.{isAboveLimit}
 use Rattle.rows.specs.Setters.{withChoosing}
-use Rattle.rows.specs.Lines.{moves, refuses, nextOther, goesOn, passes, advanceOf}
-use Rattle.rows.specs.Lines.{line2, line4, line5, line6, line7}
+use Rattle.rows.specs.Lines.{moves, refuses, nextOther, goesOn, passes, anyLine, line2, line4, line5, line6, line7}
 use Rattle.rows.specs.declared.Seen.{Seen}
 use Rattle.rows.specs.declared.Advanced.{Advanced}
 use Rattle.rows.proofs.ByLine.{by-line}
@@ -48,7 +47,7 @@ module _ (s : Seen) (r : Row) where
       (λ _. moved (λ q _. f (sym q)))
       (λ _. moved (λ q _. g (sym q)))
 
-  pub advance-marked : (algorithm n i : ℕ) → Marked s r (advanceOf algorithm n i s r)
+  pub advance-marked : (algorithm n i : ℕ) → Marked s r (anyLine algorithm n i s r)
   unfolding line2 line4 line5 line6 line7
   advance-marked algorithm n i =
       by-line algorithm n i s r (Marked s r)

@@ -3,6 +3,7 @@ use Prim.Native.Nat.{ℕ, _+_}
 use mathlib.Core.Bool.{Bool, cond, _&&_, _||_}
 use lib.Dec.{leb, eqb}
 use lib.IntN.{ℤ}
+use Rattle.fields.specs.Tests.{within}
 use Rattle.fields.specs.Numbers.{slots, none, isNone}
 use Rattle.fields.specs.Refusals.{noRefusal, notWellFormed, aboveTokenLimit}
 use Rattle.fields.specs.Rules.{countOk}
@@ -107,13 +108,13 @@ lineStep line algorithm n i s r =
     (waits s r))))))))))
 
 -- The step of process i of a machine, its row being r, where it sees s.
-unfoldable pub advanceOf : ℕ → ℕ → ℕ → Seen → Row → Advanced
-advanceOf algorithm n i s r = lineStep (r .line) algorithm n i s r
+unfoldable pub anyLine : ℕ → ℕ → ℕ → Seen → Row → Advanced
+anyLine algorithm n i s r = lineStep (r .line) algorithm n i s r
 
--- a count, and an index, that a table may have
+-- a count, an index and a line that a table may have
 abbrev pub isReady : ℕ → Row → Bool
-isReady n r = countOk n && leb (r .index) slots
+isReady n r = countOk n && leb (r .index) slots && within 1 10 (r .line)
 
--- the answer of `advance`: a count or an index that no table has is refused by 3
-unfoldable pub rowStepOf : ℕ → ℕ → ℕ → Seen → Row → Advanced
-rowStepOf algorithm n i s r = cond (isReady n r) (advanceOf algorithm n i s r) (refuses notWellFormed s r)
+-- the answer of `advance`: a count, an index or a line that no table has is refused by 3
+unfoldable pub advanceOf : ℕ → ℕ → ℕ → Seen → Row → Advanced
+advanceOf algorithm n i s r = cond (isReady n r) (anyLine algorithm n i s r) (refuses notWellFormed s r)

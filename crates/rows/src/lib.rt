@@ -2,7 +2,7 @@
 mod lines;
 
 ghost use mathlib.Core.Path.{_≡_};
-ghost use Rattle.rows.specs.Lines.{isReady, rowStepOf};
+ghost use Rattle.rows.specs.Lines.{isReady, advanceOf};
 use fields::MOST_PROCESSES;
 use fields::Value;
 use fields::refusal;
@@ -36,17 +36,17 @@ pub fn seen_of(x: Value, other: Row) -> Seen
     }
 }
 
-// Whether n is a count, and the row's index one, that a table may have. No line asks more of its row.
+// Whether n is a count, and the row's index and line are ones, that a table may have. No line asks more of its row.
 fn is_ready(n: u8, r: Row) -> bool
     ensures { λ b. ⌜ b ≡ isReady n r ⌝ }
 {
-    fields::count_ok(n) & (r.index <= MOST_PROCESSES)
+    fields::count_ok(n) & (r.index <= MOST_PROCESSES) & fields::number_within(1, 10, r.line)
 }
 
-// One step of process i, whose row is r and who sees s: what `step` does to a row of its table. Refusal 3 for a count or an index that no
-// table has, then 5; at a line that is none of 1 to 10 it waits.
+// One step of process i, whose row is r and who sees s: what `step` does to a row of its table. Refusal 3 for a count, an index or
+// a line that no table has, then 5.
 pub fn advance(algorithm: u8, n: u8, i: u8, s: Seen, r: Row) -> Advanced
-    ensures { λ a. ⌜ a ≡ rowStepOf algorithm n i s r ⌝ }
+    ensures { λ a. ⌜ a ≡ advanceOf algorithm n i s r ⌝ }
 {
     if !is_ready(n, r) {
         return kept(refusal::NOT_WELL_FORMED, s, r);

@@ -5,9 +5,8 @@ ghost use Rattle.fields.specs.Numbers.{slots};
 ghost use Rattle.tokens.specs.Count.{Count};
 ghost use Rattle.rows.specs.Ready.{Ready};
 ghost use Rattle.rows.specs.Setters.{withCell};
-ghost use Rattle.rows.specs.Lines.{moves, refuses, nextOther, goesOn, takesToken, passes};
-ghost use Rattle.rows.specs.Lines.{line1, line2, line3, line4, line5, line6, line7, line8};
-ghost use Rattle.rows.specs.Lines.{line9, line10, advanceOf};
+ghost use Rattle.rows.specs.Lines.{moves, refuses, nextOther, goesOn, takesToken, passes, line1, line2, line3, line4, line5, line6};
+ghost use Rattle.rows.specs.Lines.{line7, line8, line9, line10, anyLine};
 use crate::Advanced;
 use crate::Seen;
 use fields::NONE;
@@ -155,7 +154,7 @@ fn line_5(n: u8, i: u8, s: Seen, r: Row) -> Advanced
 // Lines 2 to 5.
 fn doorway(algorithm: u8, n: u8, i: u8, s: Seen, r: Row) -> Advanced
     requires { ⌜ Ready n r × (2 ≤ r .line) × (r .line ≤ 5) ⌝ }
-    ensures { λ a. ⌜ a ≡ advanceOf algorithm n i s r ⌝ }
+    ensures { λ a. ⌜ a ≡ anyLine algorithm n i s r ⌝ }
 {
     let line = r.line;
     match line {
@@ -211,7 +210,7 @@ fn line_7(algorithm: u8, n: u8, i: u8, s: Seen, r: Row) -> Advanced
 // Lines 6 and 7.
 fn waiting(algorithm: u8, n: u8, i: u8, s: Seen, r: Row) -> Advanced
     requires { ⌜ Ready n r × (6 ≤ r .line) × (r .line ≤ 7) ⌝ }
-    ensures { λ a. ⌜ a ≡ advanceOf algorithm n i s r ⌝ }
+    ensures { λ a. ⌜ a ≡ anyLine algorithm n i s r ⌝ }
 {
     let line = r.line;
     match line {
@@ -256,7 +255,7 @@ fn line_10(s: Seen, r: Row) -> Advanced
 // Lines 8 to 10.
 fn critical(s: Seen, r: Row) -> Advanced
     requires { ⌜ (8 ≤ r .line) × (r .line ≤ 10) ⌝ }
-    ensures { λ a. ⌜ ((algorithm n i : ℕ) → a ≡ advanceOf algorithm n i s r) ⌝ }
+    ensures { λ a. ⌜ ((algorithm n i : ℕ) → a ≡ anyLine algorithm n i s r) ⌝ }
 {
     let line = r.line;
     match line {
@@ -266,10 +265,11 @@ fn critical(s: Seen, r: Row) -> Advanced
     }
 }
 
-// Lines 1 to 10: one step of process i, whose row is r and who sees s. No well-formed row stands at another line; there it waits.
+// Lines 1 to 10: one step of process i, whose row is r and who sees s. A row that is ready stands at one of them; the last arm, to which none
+// comes, waits as the definition does.
 pub(crate) fn any_line(algorithm: u8, n: u8, i: u8, s: Seen, r: Row) -> Advanced
     requires { ⌜ Ready n r ⌝ }
-    ensures { λ a. ⌜ a ≡ advanceOf algorithm n i s r ⌝ }
+    ensures { λ a. ⌜ a ≡ anyLine algorithm n i s r ⌝ }
 {
     let line = r.line;
     match line {

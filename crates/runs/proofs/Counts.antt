@@ -10,8 +10,7 @@ use lib.ListN.{length, getD, set, drop, length-append, length-map}
 use lib.Seq.{drop-cons, set-append-seam}
 use Rattle.table.specs.Lent.{inFront}
 use Rattle.fields.proofs.Tests.{by-test, of-choice}
-use Rattle.runs.specs.Run.{Turn, those, changed, unchanged, isEntry}
-use Rattle.runs.specs.Run.{movedIn, waitedIn, entriesIn, enteredIn}
+use Rattle.runs.specs.Run.{Turn, those, changed, unchanged, isEntry, movedIn, waitedIn, entriesIn, enteredIn}
 
 module _ (f : Turn → Bool) where
   those-append : (us vs : List Turn) → those f (us ++ vs) ≡ those f us ++ those f vs

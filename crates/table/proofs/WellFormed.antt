@@ -1,7 +1,7 @@
 -- A well-formed table, rule by rule; its rows above n are fresh rows; every answer of `fresh` is well formed.
 use Prim.Native.Nat.{ℕ, suc, _-_, _<_, _≤_}
-use mathlib.Core.Path.{_≡_, refl, sym, ap, _∙_}
-use mathlib.Core.Bool.{Bool, true, not, false≢true}
+use mathlib.Core.Path.{_≡_, refl, sym, ap, subst, _∙_}
+use mathlib.Core.Bool.{Bool, true, cond, not, false≢true}
 use native.Mathlib.Omega.{arith}
 use borrow.Author.Tests.{le-leb, lt-leb, eqb-true}
 use lib.Dec.{leb, eqb}
@@ -10,11 +10,8 @@ use lib.ListN.{length, getD, length-replicate, getD-replicate}
 use lib.Seq.{ext-getD}
 use Rattle.fields.specs.Tests.{within, withinℤ}
 use Rattle.fields.specs.Numbers.{slots, none, isNone, unbounded, limitOf, topOf}
-use Rattle.fields.specs.Rules.{algorithmOk, countOk, xOk}
-use Rattle.fields.specs.Rules.{lineOk, indexOk, choosingOk, tokenOk, pivotOk}
-use Rattle.table.specs.WellFormed.{rowOf, cellOf, noRow}
-use Rattle.fields.specs.Rules.{mayHold, cellOk}
-use Rattle.table.specs.WellFormed.{cellRule, cellsOk, rowOk, rowRule, rowsOk, wellFormed}
+use Rattle.fields.specs.Rules.{algorithmOk, countOk, xOk, lineOk, indexOk, choosingOk, tokenOk, pivotOk, mayHold, cellOk}
+use Rattle.table.specs.WellFormed.{rowOf, cellOf, noRow, cellRule, cellsOk, rowOk, rowRule, rowsOk, wellFormed}
 use Rattle.table.specs.Fresh.{allNone, freshRow, freshTable, freshOf}
 use Rattle.table.specs.Sized.{Sized}
 use Rattle.table.specs.declared.Row.{Row}
@@ -87,6 +84,11 @@ well-formed t k =
 pub is-none : (v : ℤ) → isNone v ≡ true → v ≡ none
 is-none (pos a) e = absurd (false≢true e)
 is-none (negsuc a) e = ap negsuc (eqb-true a 0 e)
+
+-- a line of one of n processes that keeps its rule is 1 to 10
+pub line-range : (n i line : ℕ) → i ≤ n → lineOk n i line ≡ true → within 1 10 line ≡ true
+unfolding lineOk
+line-range n i line h e = subst (λ (b : Bool). cond b (within 1 10 line) (eqb line 1) ≡ true) (le-leb i n h) e
 
 -- an index that keeps its rule names a process, or none by 0
 pub index-range : (n i line index : ℕ) → indexOk n i line index ≡ true → index ≤ n

@@ -8,11 +8,11 @@ use borrow.Author.Tests.{ne-eqb}
 use lib.Dec.{eqb}
 use Rattle.fields.proofs.Tests.{of-choice}
 use Rattle.theory.proofs.Counting.{Process}
-use Rattle.theory.proofs.Tokens.{Token, none, held, IsHeld, modulus, reduced}
-use Rattle.theory.proofs.Tokens.{nextUnbounded, nextBounded, unboundedMachine, boundedMachine}
+use Rattle.theory.proofs.Tokens.{Token, none, held, IsHeld, modulus, reduced, nextUnbounded, nextBounded, unboundedMachine}
+use Rattle.theory.proofs.Tokens.{boundedMachine}
 use Rattle.theory.proofs.Remainders.{Near, lemma-1, lemma-2}
-use Rattle.theory.proofs.Model.{Place, at1, at2, at3, at4, at5, at6, at7, at8, at9, at10, Row, State, fresh}
-use Rattle.theory.proofs.Model.{set, put, afterCell, passes, movesAt, moves, rowAfter, xAfter, moved, step}
+use Rattle.theory.proofs.Model.{Place, at1, at2, at3, at4, at5, at6, at7, at8, at9, at10, Row, State, fresh, set, put, afterCell}
+use Rattle.theory.proofs.Model.{passes, movesAt, moves, rowAfter, xAfter, moved, step}
 use Rattle.theory.proofs.Invariant.{Invariant, own-at}
 use Rattle.theory.proofs.Theorems.{theorem-2, theorem-3}
 

@@ -9,13 +9,13 @@ use Rattle.fields.proofs.Tests.{by-test, and-halves}
 use Rattle.theory.proofs.Counting.{Process, by-order, by-equality, below, below-one, below-zero, below-most, below-either}
 use Rattle.theory.proofs.Counting.{sum-less, sum-but-one, at-most-largest, Reaches, largest-reached, Has, pigeonhole-but-one}
 use Rattle.theory.proofs.Tokens.{Token, none, IsHeld, nextUnbounded, beforeUnbounded, unboundedMachine}
-use Rattle.theory.proofs.Model.{Place, at1, at2, at3, at4, at5, at6, at7, at8, at9, at10, Row, State}
-use Rattle.theory.proofs.Model.{isChoosing, set, goes, afterCell, nextOther, goesOn, passes, movesAt, moves, rowAfter, xAfter, step}
-use Rattle.theory.proofs.Invariant.{pastAll, readBelow, clearedBelow, passedBelow, dueBelow, Knows, KnowsOf, dueOver}
-use Rattle.theory.proofs.Invariant.{Idle, Reads, ReadsCell, Chooses, Holds, Waits, Inside, Own, OwnOf, NoGap, Invariant}
-use Rattle.theory.proofs.Invariant.{own-at, held-at-least-x, passed-cleared, not-choosing-none-read}
-use Rattle.theory.proofs.Turns.{set-each, set-same, reads-still, EachOther, NoMoreDue}
-use Rattle.theory.proofs.Turns.{Turn, no-gap-kept, turn-keeps, due-no-more, others-sure}
+use Rattle.theory.proofs.Model.{Place, at1, at2, at3, at4, at5, at6, at7, at8, at9, at10, Row, State, isChoosing, set, goes}
+use Rattle.theory.proofs.Model.{afterCell, nextOther, goesOn, passes, movesAt, moves, rowAfter, xAfter, step}
+use Rattle.theory.proofs.Invariant.{pastAll, readBelow, clearedBelow, passedBelow, dueBelow, Knows, KnowsOf, dueOver, Idle, Reads}
+use Rattle.theory.proofs.Invariant.{ReadsCell, Chooses, Holds, Waits, Inside, Own, OwnOf, NoGap, Invariant, own-at}
+use Rattle.theory.proofs.Invariant.{held-at-least-x, passed-cleared, not-choosing-none-read}
+use Rattle.theory.proofs.Turns.{set-each, set-same, reads-still, EachOther, NoMoreDue, Turn, no-gap-kept, turn-keeps, due-no-more}
+use Rattle.theory.proofs.Turns.{others-sure}
 
 -- m is the next number above j other than i: between them there is none but i.
 record NextOther (i j m : ℕ) : Type 0 where

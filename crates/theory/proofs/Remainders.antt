@@ -8,8 +8,8 @@ use native.Mathlib.Omega.{arith}
 use borrow.Author.Tests.{le-leb, lt-leb, lt-ltb, le-ltb, eq-eqb, ne-eqb}
 use Rattle.fields.proofs.Tests.{within-yes}
 use Rattle.theory.proofs.Counting.{Process, earlier, last, by-order, by-comparison, largest}
-use Rattle.theory.proofs.Tokens.{Token, held, number-of-held, modulus, reduced, shift, shifted, ahead}
-use Rattle.theory.proofs.Tokens.{nextUnbounded, nextBounded, beforeUnbounded, beforeBounded}
+use Rattle.theory.proofs.Tokens.{Token, held, number-of-held, modulus, reduced, shift, shifted, ahead, nextUnbounded, nextBounded}
+use Rattle.theory.proofs.Tokens.{beforeUnbounded, beforeBounded}
 
 -- v lies within n - 1 of p: in p - (n - 1) to p + (n - 1)
 pub record Near (others p v : ℕ) : Type 0 where

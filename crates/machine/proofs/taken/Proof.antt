@@ -8,7 +8,7 @@ use lib.IntN.{ℤ}
 use lib.ListN.{set}
 use Rattle.fields.specs.Numbers.{slots}
 use Rattle.table.specs.WellFormed.{rowOf}
-use Rattle.rows.specs.Lines.{advanceOf}
+use Rattle.rows.specs.Lines.{anyLine}
 use Rattle.rows.proofs.Ready.{ready-advance}
 use Rattle.machine.specs.Step.{seenOf, takenOf}
 use borrow.Author.Needs.{needs}
@@ -62,7 +62,7 @@ advanced : (c : tie.After-advance)
     → let start = c .before .before .before .before .before .before .before in
     let t = start .args .t1 in
     let r = rowOf t (start .args .i) in
-    c .advance .result ≡ advanceOf (t .algorithm) (t .n) (start .args .i) (seenOf t r) r
+    c .advance .result ≡ anyLine (t .algorithm) (t .n) (start .args .i) (seenOf t r) r
 advanced c =
     let other = c .before .before .before .before in
     let start = other .before .before .before in

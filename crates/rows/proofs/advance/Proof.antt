@@ -1,6 +1,6 @@
 -- `advance` meets its contract.
 use Rattle.fields.proofs.Tests.{passed, failed}
-use Rattle.rows.specs.Lines.{rowStepOf}
+use Rattle.rows.specs.Lines.{advanceOf}
 use Rattle.rows.proofs.Ready.{is-ready}
 use borrow.Author.Needs.{needs}
 use Rattle.rows.proofs.advance.Statement.{statement}
@@ -13,14 +13,14 @@ kept-requires : tie.Need-kept-requires
 kept-requires c κs = search needs
 
 returns : tie.Need-returns
-unfolding rowStepOf
+unfolding advanceOf
 returns c = rw (failed (c .before .before .is-ready .ensures) (c .before .if1 .taken), c .kept .ensures)
 
 any-line-requires : tie.Need-any-line-requires
 any-line-requires c κs = is-ready _ _ (passed (c .before .is-ready .ensures) (c .if1 .left))
 
 returns-2 : tie.Need-returns-2
-unfolding rowStepOf
+unfolding advanceOf
 returns-2 c = rw (passed (c .before .before .is-ready .ensures) (c .before .if1 .left), c .any-line .ensures)
 
 pub advance-spec : {M : Type 1} → statement M
