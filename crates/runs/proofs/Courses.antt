@@ -1,9 +1,10 @@
 -- The laws of a course: a schedule after another, and one byte more.
-use Prim.Native.Nat.{ℕ, suc, _+_, _<_}
+use Prim.Native.Nat.{ℕ, suc, _+_, _<_, _≤_}
 use mathlib.Core.Path.{_≡_, refl, sym, ap, _∙_}
 use mathlib.Core.Bool.{Bool, true, false, cond}
 use mathlib.Core.List.{List, [], _∷_, _++_, append-assoc, append-nil}
 use native.Mathlib.Numerals.{add-one}
+use native.Mathlib.Omega.{arith}
 use borrow.Author.Tests.{eqb-false, eq-eqb, ne-eqb}
 use lib.Dec.{eqb}
 use lib.ListN.{length, getD, take, drop}
@@ -68,6 +69,15 @@ all-taken t (i ∷ s) =
     by-test (λ (c : Course). c .stop ≡ noRefusal → length (c .turns) ≡ suc (length s)) (eqb (stepOf t i .stop) noRefusal)
     (λ _ e. ap suc (all-taken (stepOf t i .table) s e))
     (λ refused e. absurd (eqb-false (stepOf t i .stop) noRefusal refused e))
+
+-- and no more are taken than there are
+pub taken-most : (t : Table) (s : List ℕ) → length (courseOf t s .turns) ≤ length s
+unfolding courseOf
+taken-most t [] = omega arith
+taken-most t (i ∷ s) =
+    by-test (λ (c : Course). length (c .turns) ≤ suc (length s)) (eqb (stepOf t i .stop) noRefusal)
+    (λ _. omega (arith, taken-most (stepOf t i .table) s))
+    (λ _. omega arith)
 
 -- A byte more of a schedule, where none before it is refused and they lead from t to now: it is taken, or it stops the course.
 module _ (t : Table) (s : List ℕ) (k : ℕ) (us : List Turn) (now : Table) (inside : k < length s)

@@ -3,8 +3,9 @@ use Prim.Native.Nat.{ℕ, _+_, _≤_}
 use mathlib.Core.Path.{_≡_, sym, ap, _∙_}
 use mathlib.Core.Bool.{true}
 use mathlib.Core.List.{List, [], _∷_, _++_}
-use borrow.Author.Tests.{le-leb, eqb-true, ne-eqb}
-use lib.Dec.{eqb}
+use native.Mathlib.Omega.{arith}
+use borrow.Author.Tests.{le-leb, leb-true, eqb-true, ne-eqb}
+use lib.Dec.{leb, eqb}
 use lib.ListN.{length, length-append}
 use Rattle.fields.specs.Numbers.{scheduleLimit}
 use Rattle.fields.specs.Refusals.{noRefusal}
@@ -17,8 +18,8 @@ use Rattle.machine.specs.Step.{stepOf}
 use Rattle.machine.proofs.Steps.{step-well-formed, step-sized}
 use Rattle.runs.specs.Run.{Course, begunBy, courseOf, enteredIn, waitingOf, answerOf, runRefusal, runOf, bufferOf}
 use Rattle.runs.specs.declared.Ran.{Ran}
-use Rattle.runs.proofs.Counts.{moved-append, waited-append, entries-append, entered-append}
-use Rattle.runs.proofs.Courses.{course-append, course-goes-on}
+use Rattle.runs.proofs.Counts.{moved-append, waited-append, entries-append, entered-append, entries-most}
+use Rattle.runs.proofs.Courses.{course-append, course-goes-on, taken-most}
 
 module _ (t : Table) (s b : List ℕ) where
   -- A run of a well-formed table is not refused as a whole, where the schedule is not too long and the buffer is not too short.
@@ -42,6 +43,25 @@ module _ (t : Table) (s b : List ℕ) where
     pub run-buffer : bufferOf t s b ≡ inFront (enteredIn (courseOf t s .turns)) b
     unfolding bufferOf
     run-buffer = rw accepted
+
+  -- A run that is not refused as a whole has a buffer that is not shorter than its schedule.
+  accepted-room : runRefusal t s b ≡ noRefusal → length s ≤ length b
+  unfolding runRefusal
+  accepted-room =
+      let Room : ℕ → Type 0 = λ stop. stop ≡ noRefusal → length s ≤ length b in
+      by-test Room (wellFormed t)
+      (λ _. by-test Room (leb (length s) scheduleLimit)
+      (λ _. by-test Room (leb (length s) (length b)) (λ room _. leb-true _ _ room) (λ _ e. absurd (omega arith)))
+      (λ _ e. absurd (omega arith)))
+      (λ _ e. absurd (omega arith))
+
+  -- So no run answers more entries than its buffer has bytes: what a caller needs to know to take them off its front.
+  pub entries-within : runOf t s b .entries ≤ length b
+  unfolding runOf
+  entries-within =
+      by-test (λ (r : Ran). r .entries ≤ length b) (eqb (runRefusal t s b) noRefusal)
+      (λ accepted. omega (arith, entries-most (courseOf t s .turns), taken-most t s, accepted-room (eqb-true _ _ accepted)))
+      (λ _. omega arith)
 
 -- The last table of a course is well formed, and sized, if the first one is.
 pub course-well-formed : (t : Table) (s : List ℕ) → wellFormed t ≡ true → Sized t → wellFormed (courseOf t s .table) ≡ true

@@ -1,0 +1,69 @@
+-- `run_and_put` meets its contract. The loop stays within the entry buffer, since no run answers more entries than that has bytes.
+use Prim.Native.Nat.{_-_, _≤_}
+use lib.ListN.{length}
+use native.Mathlib.Omega.{arith}
+use Rattle.runs.proofs.Runs.{entries-within}
+use borrow.Author.Needs.{needs}
+use Rattle.example.proofs.run_and_put.Statement.{statement}
+use Rattle.example.proofs.run_and_put.Tie as tie
+
+abbrev Inv-loop : tie.InvT-loop
+Inv-loop schedule entries r k₀ t6 k-end k = (k ≤ k-end) × (k-end ≤ length entries)
+
+abbrev μ-loop : tie.MeasureT-loop
+μ-loop schedule entries r k₀ t6 k-end k = k-end - k
+
+run-requires : tie.Need-run-requires Inv-loop μ-loop
+run-requires c κs = search needs
+
+loop-holds : tie.Need-loop-holds Inv-loop μ-loop
+loop-holds c =
+    let run = c .before .before .run in
+    let given = c .before .before .before .before .before .before .args in
+    let within = entries-within (given .t) (given .schedule .now) (given .entries .now) in
+    (omega arith, rw (run .ensures .0) (omega (arith, within, run .kept .1 .1 .0)))
+
+slice-aggregate-put : tie.Need-slice-aggregate-put Inv-loop μ-loop
+slice-aggregate-put c = search needs
+
+slice-read-number : tie.Need-slice-read-number Inv-loop μ-loop
+slice-read-number c = search needs
+
+number-requires : tie.Need-number-requires Inv-loop μ-loop
+number-requires c κs = search needs
+
+put-requires : tie.Need-put-requires Inv-loop μ-loop
+put-requires c κs = search needs
+
+add-k : tie.Need-add-k Inv-loop μ-loop
+add-k c = search needs
+
+loop-less : tie.Need-loop-less Inv-loop μ-loop
+loop-less c = search needs
+
+loop-again : tie.Need-loop-again Inv-loop μ-loop
+loop-again c = search needs
+
+same-length : tie.Need-same-length Inv-loop μ-loop
+same-length c = search needs
+
+returns : tie.Need-returns Inv-loop μ-loop
+returns c = c .before .before .before .before .run .ensures .0
+
+pub run-and-put-spec : {M : Type 1} → statement M
+run-and-put-spec =
+    tie.close
+    (tie.spec
+    Inv-loop
+    μ-loop
+    run-requires
+    loop-holds
+    slice-aggregate-put
+    slice-read-number
+    number-requires
+    put-requires
+    add-k
+    loop-less
+    loop-again
+    same-length
+    returns)
