@@ -123,7 +123,7 @@ fn course(start: Table, schedule: &[u8], entries: &mut [u8]) -> Ran
         let j = place_of(r.index);
         let other = t.rows[j];
         let a = advance(t.algorithm, t.n, i, seen_of(Value(t.x), other), r);
-        if a.stop != refusal::NO_REFUSAL {
+        if a.stop > refusal::NO_REFUSAL {
             return ended(t, moved, entered, k, a.stop);
         }
         entered = note_entry(entries, entered, r.line, i);

@@ -142,7 +142,7 @@ returns-2 c =
     let turn = answer .before .before .before .before .before .before .before .before .before .before in
     let g = turn .before .loop .inv in
     let stop = ap (λ (r : Stepped). r .stop) (stepped answer) in
-    let e = rw stop at (stops g (turn .loop-test .taken) (λ q. c .before .if2 .taken (sym stop ∙ q))) in
+    let e = rw stop at (stops g (turn .loop-test .taken) (λ q. omega (arith, sym stop ∙ q, c .before .if2 .taken))) in
     (c .ended2 .ensures ∙ answered g _ e, written g _ e)
 
 note-entry-requires : tie.Need-note-entry-requires Inv-loop μ-loop
@@ -186,7 +186,8 @@ loop-again c =
     let turn = own .before .before .before .before in
     let x : SFits w32 (answer .advance .result .x) = search needs in
     let step = stepped answer in
-    let stop = ap (λ (r : Stepped). r .stop) step ∙ note .before .before .if2 .left in
+    let none-refused : answer .advance .result .stop ≡ noRefusal = omega (arith, note .before .before .if2 .left) in
+    let stop = ap (λ (r : Stepped). r .stop) step ∙ none-refused in
     let g = takes (turn .before .loop .inv) (turn .loop-test .taken) (turn .before .before .before .before .pre .1) stop in
     rw (note .note-entry .ensures .0, note .note-entry .ensures .1, toZ-ofZ x, own .place-of .ensures)
     (rw step at g)
