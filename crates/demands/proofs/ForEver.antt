@@ -1,8 +1,7 @@
 -- The bounded machine for ever, proved: its table shows the remainders of a state that has the invariant, after every schedule.
-use Prim.Native.Nat.{ℕ, suc, _*_, _-_, _<_, _≤_}
+use Prim.Native.Nat.{ℕ, suc, _*_, _-_, _≤_}
 use mathlib.Core.Path.{_≡_, refl, sym, ap, _∙_}
 use mathlib.Core.Bool.{true, false, true≢false}
-use mathlib.Core.Logic.{⊎-elim, inl, inr}
 use native.Mathlib.Omega.{arith}
 use borrow.Author.Tests.{leb-true, eq-eqb}
 use lib.IntN.{ℤ, pos, negsuc, natAbs}
@@ -16,11 +15,10 @@ use Rattle.table.proofs.WellFormed.{table-rules, token-range}
 use Rattle.runs.specs.Run.{courseOf}
 use Rattle.theory.proofs.Counting.{Process}
 use Rattle.theory.proofs.Tokens.{held, modulus, ahead}
-use Rattle.theory.proofs.Remainders.{either-ahead}
 use Rattle.theory.proofs.Model.{State, fresh}
 use Rattle.theory.proofs.Mirrors.{one-arc}
 use Rattle.theory.proofs.Mirrors as theory
-use Rattle.demands.specs.ForEver.{Holds, aheadOf, Spread, OneArc, BoundedForEver}
+use Rattle.demands.specs.ForEver.{Holds, aheadOf, OneArc, HeldTogether, BoundedForEver}
 use Rattle.demands.proofs.Views.{tokenOf, view}
 use Rattle.demands.proofs.From1.{row-from1}
 use Rattle.demands.proofs.Tables.{some-process, in-table}
@@ -54,9 +52,6 @@ module _ (n : ℕ) (b : Table) (s : State) (m : Mirrors n b s) where
       let range = token-range (limitOf (b .algorithm) (b .n)) (rowOf b i .line) (rowOf b i .token) (rules .token) in
       held-number (2 * n - 2) (rowOf b i .token) (rw (m .table .machine, m .table .count) at range) (h .token)
 
-  below-modulus : (i : ℕ) (h : Holds n b i) → token-number i h .number < modulus (n - 1)
-  below-modulus i h = omega (arith, token-number i h .most, some-process (m .table))
-
   token-shown : (i : ℕ) → 1 ≤ i → i ≤ n → view b .row i .token ≡ tokenOf (rowOf b i .token)
   token-shown i low high = ap (λ r. tokenOf (r .token)) (sym (row-from1 b (m .table .sized) i low (in-table (m .table) high)))
 
@@ -65,26 +60,18 @@ module _ (n : ℕ) (b : Table) (s : State) (m : Mirrors n b s) where
 
   -- how far one is ahead of another is what the theory says of their numbers
   ahead-is : (i j : ℕ) (hi : Holds n b i) (hj : Holds n b j)
-      → aheadOf n b i j ≡ ahead (n - 1) (token-number i hi .number) (token-number j hj .number)
+      → aheadOf n b i j ≡ ahead (modulus (n - 1)) (token-number i hi .number) (token-number j hj .number)
   ahead-is i j hi hj =
       let v = token-number i hi in
       let w = token-number j hj in
       rw (v .is, w .is) (ahead-view n (some-process (m .table)) (v .number) (w .number) (omega (arith, v .most)))
 
-  spread : Spread n b
-  spread i j hi hj =
-      let v = token-number i hi in
-      let w = token-number j hj in
-      rw (ahead-is i j hi hj, ahead-is j i hj hi)
-      (⊎-elim (λ near. inl (omega (arith, near))) (λ near. inr (omega (arith, near)))
-      (either-ahead (n - 1) (v .number) (w .number) (below-modulus i hi) (below-modulus j hj)))
-
   -- what the view shows of the process i
   shown : (i : ℕ) (h : Holds n b i) → view b .row i .token ≡ held (token-number i h .number)
   shown i h = token-shown i (h .low) (h .high) ∙ ap tokenOf (token-number i h .is)
 
-  arc : (i : ℕ) → Holds n b i → OneArc n b
-  arc i h =
+  held-together : HeldTogether (n - 1) n b
+  held-together i h =
       record {
         from = in-view .from;
         holds = first;
@@ -114,4 +101,4 @@ bounded-for-ever n c schedule =
     let last = mirror-course n (freshTable bounded n) schedule (record { state = fresh; mirrors = fresh-mirrors n c }) in
     let t = courseOf (freshTable bounded n) schedule .table in
     let m = last .mirrors in
-    (mirror-at-most-one n t _ m, spread n t _ m, arc n t _ m, mirror-accepts n t _ m)
+    (mirror-at-most-one n t _ m, held-together n t _ m, mirror-accepts n t _ m)

@@ -1,6 +1,6 @@
 -- The schedules of Sharp, computed: each to the whole table, from which what is said of it is read off.
 use Prim.Native.Nat.{ℕ, _-_, _≤_}
-use mathlib.Core.Path.{_≡_, refl, sym, ap, subst}
+use mathlib.Core.Path.{_≡_, refl, ap, subst}
 use mathlib.Core.List.{_∷_}
 use native.Mathlib.Omega.{arith}
 use lib.IntN.{ℤ, pos}
@@ -16,26 +16,24 @@ use Rattle.fields.proofs.Tests.{up-to-next}
 use Rattle.tokens.specs.Tokens.{remainder}
 use Rattle.rows.specs.Setters.{withLine, withIndex, withChoosing, withToken}
 use Rattle.runs.specs.Run.{Course, courseOf}
+use Rattle.theory.proofs.Counting.{largest}
+use Rattle.theory.proofs.Tokens.{shifted, nextBounded, beforeBounded}
 use Rattle.demands.specs.Agreement.{f, isRemainder, rowAgrees, rowAtAgrees, agree, meets}
-use Rattle.demands.specs.ForEver.{Holds, aheadOf}
-use Rattle.demands.specs.Sharp.{after, secondToken, NotEmpty, NotModuloOneLess, sevenEach, TwoAtLine7, sixEach, threeTokens}
-use Rattle.demands.specs.Sharp.{farApart, NotNearer}
+use Rattle.demands.specs.ForEver.{Holds, aheadOf, OneArc, HeldTogether}
+use Rattle.demands.specs.Sharp.{after, secondToken, NotEmpty, stateAfter, NotModuloOneLess, sevenEach, TwoAtLine7, sixEach}
+use Rattle.demands.specs.Sharp.{threeTokens, NotNearer}
 use Rattle.demands.proofs.Computed.{fresh-plain, plainly}
 
 -- a row that has just taken a token
 abbrev holding : ℤ → Row
 holding token = withLine 5 (withChoosing 1 (withToken token freshRow))
 
-abbrev second : ℕ → Table
-second algorithm = record { algorithm = algorithm; n = 2; x = pos 1; rows = holding (pos 2) ∷ replicate (slots - 1) freshRow }
+abbrev second : Table
+second = record { algorithm = unbounded; n = 2; x = pos 1; rows = holding (pos 2) ∷ replicate (slots - 1) freshRow }
 
-unbounded-second : after unbounded 2 secondToken ≡ second unbounded
+is-second : after unbounded 2 secondToken ≡ second
 unfolding plainly
-unbounded-second = ap (λ (c : Course). c .table) (fresh-plain unbounded 2 secondToken refl refl refl)
-
-bounded-second : after bounded 2 secondToken ≡ second bounded
-unfolding plainly
-bounded-second = ap (λ (c : Course). c .table) (fresh-plain bounded 2 secondToken refl refl refl)
+is-second = ap (λ (c : Course). c .table) (fresh-plain unbounded 2 secondToken refl refl refl)
 
 accepted : courseOf (freshTable unbounded 2) secondToken .stop ≡ noRefusal
 unfolding plainly
@@ -43,11 +41,11 @@ accepted = ap (λ (c : Course). c .stop) (fresh-plain unbounded 2 secondToken re
 
 pub not-empty : NotEmpty
 unfolding courseOf f isRemainder rowAgrees rowAtAgrees every agree meets
-not-empty = (accepted, ap (λ (t : Table). meets 2 t (freshTable bounded 2)) unbounded-second)
+not-empty = (accepted, ap (λ (t : Table). meets 2 t (freshTable bounded 2)) is-second)
 
 pub not-modulo-one-less : NotModuloOneLess
-unfolding f isRemainder
-not-modulo-one-less = λ at. isRemainder 2 (rowOf (unbounded-second at) 1 .token) (rowOf (bounded-second at) 1 .token)
+unfolding largest shifted nextBounded beforeBounded stateAfter
+not-modulo-one-less = (refl, refl)
 
 -- process 1 of two at line 7 to look at process 2, and the other way round
 abbrev looking : Table
@@ -79,7 +77,7 @@ is-three = ap (λ (c : Course). c .table) (fresh-plain bounded 3 sixEach refl re
 -- the first and the last hold theirs, and one of them is more than 1 ahead of each
 pub not-nearer : NotNearer
 unfolding remainder
-not-nearer = subst farApart (sym is-three) (refl, refl, λ from h. apart from (h .low) (h .high))
+not-nearer near = no-arc (subst (HeldTogether 1 3) is-three near 1 first)
   where
     Apart : ℕ → Type 0
     Apart from = ((j : ℕ) → Holds 3 three j → aheadOf 3 three from j ≤ 1) → ⊥
@@ -97,3 +95,6 @@ not-nearer = subst farApart (sym is-three) (refl, refl, λ from h. apart from (h
         (up-to-next Apart 0 (λ from low high. absurd (omega arith)) (λ near. omega (arith, near 3 last)))
         (λ near. omega (arith, near 1 first)))
         (λ near. omega (arith, near 1 first))
+
+    no-arc : OneArc 1 3 three → ⊥
+    no-arc arc = apart (arc .from) (arc .holds .low) (arc .holds .high) (arc .all)

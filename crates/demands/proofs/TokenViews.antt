@@ -126,17 +126,17 @@ module _ (n : ℕ) (some : 1 ≤ n) where
   same-modulus = omega arith
 
   -- how far b is ahead of a, going round
-  pub ahead-view : (a b : ℕ) → a < modulusOf n → remainder (pos b -ℤ pos a) (modulusOf n) ≡ ahead (n - 1) a b
+  pub ahead-view : (a b : ℕ) → a < modulusOf n → remainder (pos b -ℤ pos a) (modulusOf n) ≡ ahead (modulus (n - 1)) a b
   ahead-view a b small = difference-round b a (modulusOf n) (omega arith) ∙ ap (λ (m : ℕ). (b + (m - a)) % m) same-modulus
 
-  before-b-view : (i a j b : ℕ) → a < modulusOf n → beforeB n i (pos a) j (pos b) ≡ beforeBounded (n - 1) i (held a) j (held b)
+  before-b-view : (i a j b : ℕ) → a < modulusOf n → beforeB n i (pos a) j (pos b) ≡ beforeBounded (modulus (n - 1)) (n - 1) i (held a) j (held b)
   unfolding beforeB beforeBounded
   before-b-view i a j b small =
       rw (number-of-held a, number-of-held b) (ap (λ (d : ℕ). within 1 (n - 1) d || eqb d 0 && ltb i j) (ahead-view a b small))
 
   module _ (p : ℕ) (small : p < modulusOf n) where
     -- a pivot or a cell shifted
-    shifted-view : (v : ℤ) → FromNone v → tokenOf (machine.shiftedCell n (pos p) v) ≡ theory.shifted (n - 1) p (tokenOf v)
+    shifted-view : (v : ℤ) → FromNone v → tokenOf (machine.shiftedCell n (pos p) v) ≡ theory.shifted (modulus (n - 1)) (n - 1) p (tokenOf v)
     unfolding machine.shiftedCell machine.shifted theory.shifted
     shifted-view (pos v) least =
         ap held (difference-round (v + (n - 1)) p (modulusOf n) (omega arith)
@@ -151,7 +151,7 @@ module _ (n : ℕ) (some : 1 ≤ n) where
     shifted-at cells j = from1-map none shiftedCell refl cells j
 
     shifted-cells : (cells : List ℤ) → CellsFor n cells
-        → cellsView (map shiftedCell cells) ≡ (λ k. theory.shifted (n - 1) p (cellsView cells k))
+        → cellsView (map shiftedCell cells) ≡ (λ k. theory.shifted (modulus (n - 1)) (n - 1) p (cellsView cells k))
     shifted-cells cells c = fun-ext (λ k. ap tokenOf (shifted-at cells k) ∙ shifted-view (from1 none cells k) (c .least k))
 
     -- the largest of the shifted pivot and cells
@@ -160,7 +160,7 @@ module _ (n : ℕ) (some : 1 ≤ n) where
 
     largest-shifted : (cells : List ℤ) → CellsFor n cells
         → tokenOf (largestShifted cells)
-        ≡ max (theory.shifted (n - 1) p (held p)) (largest (λ k. theory.shifted (n - 1) p (cellsView cells k)) n)
+        ≡ max (theory.shifted (modulus (n - 1)) (n - 1) p (held p)) (largest (λ k. theory.shifted (modulus (n - 1)) (n - 1) p (cellsView cells k)) n)
     unfolding machine.shiftedCell
     largest-shifted cells c =
         rw (sym (shifted-view (pos p) refl), sym (shifted-cells cells c))
@@ -169,14 +169,14 @@ module _ (n : ℕ) (some : 1 ≤ n) where
 
     -- it is shifted back, and one more is the next token
     back-view : (z : ℤ) (t : Token) → tokenOf z ≡ t → 1 ≤ t
-        → remainder (z +ℤ pos p -ℤ pos n +ℤ pos 2) (modulusOf n) ≡ (numberOf t + p + (n - 1) + 2) % modulus (n - 1)
+        → remainder (z +ℤ pos p -ℤ pos n +ℤ pos 2) (modulusOf n) ≡ (numberOf t + p + (modulus (n - 1) - n) + 2) % modulus (n - 1)
     back-view (pos a) t e some =
-        let sum : a + p + 2 + (modulusOf n - n) ≡ numberOf t + p + (n - 1) + 2 = omega arith in
+        let sum : a + p + 2 + (modulusOf n - n) ≡ numberOf t + p + (modulus (n - 1) - n) + 2 = omega arith in
         rw (sum-first (a + p) n 2) (difference-round (a + p + 2) n (modulusOf n) (omega arith) ∙ rw (sum, same-modulus))
     back-view (negsuc a) t e some = absurd (omega arith)
 
     next-b-view : (cells : List ℤ) → CellsFor n cells
-        → tokenOf (nextB n (pos p) cells) ≡ nextBounded (n - 1) (held p) (cellsView cells)
+        → tokenOf (nextB n (pos p) cells) ≡ nextBounded (modulus (n - 1)) (n - 1) (held p) (cellsView cells)
     unfolding nextB nextBounded theory.shifted
     next-b-view cells c =
         let count : suc (n - 1) ≡ n = omega arith in

@@ -2,7 +2,6 @@
 use Prim.Native.Nat.{ℕ, _-_, _≤_}
 use mathlib.Core.Path.{_≡_}
 use mathlib.Core.Bool.{true, false}
-use mathlib.Core.Logic.{_⊎_}
 use mathlib.Core.List.{List}
 use lib.IntN.{_-ℤ_}
 use Rattle.fields.specs.Numbers.{bounded, isNone, modulusOf}
@@ -26,24 +25,23 @@ pub record Holds (n : ℕ) (t : Table) (i : ℕ) : Type 0 where
 abbrev pub aheadOf : ℕ → Table → ℕ → ℕ → ℕ
 aheadOf n t i j = remainder (rowOf t j .token -ℤ rowOf t i .token) (modulusOf n)
 
--- any two held tokens are within n - 1 of each other, going round modulo 2n - 1
-abbrev pub Spread : ℕ → Table → Type 0
-Spread n t = (i j : ℕ) → Holds n t i → Holds n t j → (aheadOf n t i j ≤ n - 1) ⊎ (aheadOf n t j i ≤ n - 1)
-
--- That much is so of any two remainders modulo 2n - 1. What is meant is more: the held tokens lie together, on n numbers one after the
--- other going round, from the token of some process on.
-pub record OneArc (n : ℕ) (t : Table) : Type 0 where
+-- the held tokens lie together: from the token of some process on, going round, none is more than `reach` ahead
+pub record OneArc (reach n : ℕ) (t : Table) : Type 0 where
   pub from : ℕ
   pub holds : Holds n t from
-  pub all : (j : ℕ) → Holds n t j → aheadOf n t from j ≤ n - 1
+  pub all : (j : ℕ) → Holds n t j → aheadOf n t from j ≤ reach
 
--- After every schedule at most one process stands at lines 8 to 10, the held tokens lie together, and the machine goes on: it refuses no
--- byte but 0 and those above n. (A course ends at the first byte that is refused, so the table is the one after the bytes that are taken.)
+-- so it is where a process holds a token
+abbrev pub HeldTogether : ℕ → ℕ → Table → Type 0
+HeldTogether reach n t = (i : ℕ) → Holds n t i → OneArc reach n t
+
+-- After every schedule at most one process stands at lines 8 to 10; the held tokens lie together, on n numbers one after the other; and the
+-- machine goes on: it refuses no byte but 0 and those above n. (A course ends at the first byte that is refused, so the table is the one
+-- after the bytes that are taken.)
 abbrev pub BoundedForEver : Type 0
 BoundedForEver =
     (n : ℕ) → countOk n ≡ true → (schedule : List ℕ)
     → let t = courseOf (freshTable bounded n) schedule .table in
     (atMostOne t ≡ true)
-    × Spread n t
-    × ((i : ℕ) → Holds n t i → OneArc n t)
+    × HeldTogether (n - 1) n t
     × ((i : ℕ) → 1 ≤ i → i ≤ n → stepOf t i .stop ≡ noRefusal)

@@ -1,6 +1,6 @@
--- Demand 3 is not empty; modulo 2n - 2, or of lines 7 to 10, it is false, and so is the spread of tokens with n - 2: a schedule of two or
--- three processes for each.
-use Prim.Native.Nat.{ℕ, _≤_}
+-- Demand 3 is not empty, and false of lines 7 to 10; the bounded machine built modulo 2n - 2 lets two processes in together; held tokens do
+-- not lie on n - 1 numbers one after the other: a schedule of two or three processes for each.
+use Prim.Native.Nat.{ℕ}
 use mathlib.Core.Path.{_≡_}
 use mathlib.Core.Bool.{false}
 use mathlib.Core.List.{List, [], _∷_, _++_, flatten}
@@ -12,8 +12,10 @@ use Rattle.table.specs.WellFormed.{rowOf}
 use Rattle.table.specs.Fresh.{freshTable}
 use Rattle.table.specs.declared.Table.{Table}
 use Rattle.runs.specs.Run.{courseOf}
-use Rattle.demands.specs.Agreement.{isRemainder, meets}
-use Rattle.demands.specs.ForEver.{Holds, aheadOf}
+use Rattle.theory.proofs.Tokens.{Machine, machineModulo}
+use Rattle.theory.proofs.Model.{State, fresh, step, at8}
+use Rattle.demands.specs.Agreement.{meets}
+use Rattle.demands.specs.ForEver.{HeldTogether}
 
 -- the table after a schedule
 abbrev pub after : ℕ → ℕ → List ℕ → Table
@@ -29,10 +31,21 @@ NotEmpty =
     (courseOf (freshTable unbounded 2) secondToken .stop ≡ noRefusal)
     × (meets 2 (after unbounded 2 secondToken) (after bounded 2 []) ≡ false)
 
--- Not modulo 2n - 2: the token is 2 in both tables.
+-- Not modulo 2n - 2. The theory writes the bounded machine over its modulus (`crates/theory/proofs`), and a step of the one modulo 2n - 1 is
+-- document 01's (`step-seen`). The state after the steps of a schedule, n being `suc others`:
+unfoldable pub stateAfter : ℕ → Machine → State → List ℕ → State
+stateAfter others m s [] = s
+stateAfter others m s (i ∷ later) = stateAfter others m (step others m s i) later
+
+-- Process 2 takes token 1 and looks at process 1, which has no token yet, but has seen that one and X = 0 when process 2 goes on to line 8.
+-- Modulo 2 a token n - 1 above the pivot shifts to what one n - 1 below it does: process 1 takes 1 again, and comes to line 8 too.
+abbrev pub bothPass : List ℕ
+bothPass = replicate 7 2 ++ replicate 4 1 ++ (2 ∷ []) ++ replicate 4 1
+
 abbrev pub NotModuloOneLess : Type 0
 NotModuloOneLess =
-    isRemainder 2 (rowOf (after unbounded 2 secondToken) 1 .token) (rowOf (after bounded 2 secondToken) 1 .token) ≡ false
+    let s = stateAfter 1 (machineModulo 2 1) fresh bothPass in
+    (s .row 1 .place ≡ at8) × (s .row 2 .place ≡ at8)
 
 -- Not lines 7 to 10: after seven bytes each, both of two processes stand at line 7.
 abbrev pub sevenEach : List ℕ
@@ -43,19 +56,12 @@ TwoAtLine7 =
     let t = after bounded 2 sevenEach in
     howMany (λ i. within 7 10 (rowOf t i .line)) slots ≡ 2
 
--- Not n - 2: three processes hold the tokens 1, 2 and 3, modulo 5. The first and the last are not within 1 of each other, and from none of
--- the three on are all at most 1 ahead.
+-- Not n - 2: three processes hold the tokens 1, 2 and 3, modulo 5, and from none of the three on are all at most 1 ahead.
 abbrev pub sixEach : List ℕ
 sixEach = replicate 6 1 ++ replicate 6 2 ++ replicate 6 3
 
 abbrev pub threeTokens : Table
 threeTokens = after bounded 3 sixEach
 
-abbrev pub farApart : Table → Type 0
-farApart t =
-    (aheadOf 3 t 1 3 ≡ 2)
-    × (aheadOf 3 t 3 1 ≡ 3)
-    × ((from : ℕ) → Holds 3 t from → ((j : ℕ) → Holds 3 t j → aheadOf 3 t from j ≤ 1) → ⊥)
-
 abbrev pub NotNearer : Type 0
-NotNearer = farApart threeTokens
+NotNearer = HeldTogether 1 3 threeTokens → ⊥

@@ -47,7 +47,7 @@ pub record OneArc (others : ℕ) (s : State) : Type 0 where
   pub process : Process (suc others) from
   pub number : ℕ
   pub holds : s .row from .token ≡ held number
-  pub all : (j w : ℕ) → Process (suc others) j → s .row j .token ≡ held w → ahead others number w ≤ others
+  pub all : (j w : ℕ) → Process (suc others) j → s .row j .token ≡ held w → ahead (modulus others) number w ≤ others
 
 -- t is a held token whose remainder is v
 record HeldBefore (others : ℕ) (t : Token) (v : ℕ) : Type 0 where

@@ -2,12 +2,11 @@
 -- machine's operations do with the remainders modulo 2n - 1 what the unbounded machine's do with the tokens.
 use Prim.Native.Nat.{ℕ, zero, suc, _+_, _-_, _*_, _/_, _%_, _≤_, _<_, max}
 use mathlib.Core.Path.{_≡_, refl, sym, ap, _∙_}
-use mathlib.Core.Logic.{_⊎_, inl, inr, ⊎-elim}
 use native.Mathlib.Nat.{mod-lt, mod-eq-of-lt, add-mul-mod-self-right, div-add-mod'}
 use native.Mathlib.Omega.{arith}
 use borrow.Author.Tests.{le-leb, lt-leb, lt-ltb, le-ltb, eq-eqb, ne-eqb}
 use Rattle.fields.proofs.Tests.{within-yes}
-use Rattle.theory.proofs.Counting.{Process, earlier, last, by-order, by-comparison, largest}
+use Rattle.theory.proofs.Counting.{Process, earlier, last, by-comparison, largest}
 use Rattle.theory.proofs.Tokens.{Token, held, number-of-held, modulus, reduced, shift, shifted, ahead, nextUnbounded, nextBounded}
 use Rattle.theory.proofs.Tokens.{beforeUnbounded, beforeBounded}
 
@@ -31,35 +30,22 @@ divided others v = (div-add-mod' v (modulus others), mod-lt v (omega arith))
 -- What the bounded machine measures from v to w, on their remainders.
 module _ (others v w : ℕ) where
   -- w shifted by n - 1 - v, which takes v to n - 1
-  shift-is : Near others v w → shift others (v % modulus others) (w % modulus others) ≡ w + others - v
+  shift-is : Near others v w → shift (modulus others) others (v % modulus others) (w % modulus others) ≡ w + others - v
   shift-is near =
       let m = modulus others in
       remainder-is m (w / m) (suc (v / m)) _ _ (omega arith) (omega (arith, divided others v, divided others w))
 
   -- how far w is ahead of v, going round: where it is above it, as far as it is above it,
-  pub ahead-if-above : v ≤ w → w ≤ v + others → ahead others (v % modulus others) (w % modulus others) ≡ w - v
+  pub ahead-if-above : v ≤ w → w ≤ v + others → ahead (modulus others) (v % modulus others) (w % modulus others) ≡ w - v
   ahead-if-above low high =
       let m = modulus others in
       remainder-is m (w / m) (suc (v / m)) _ _ (omega arith) (omega (arith, divided others v, divided others w))
 
   -- and where it is below it, the rest of the round
-  ahead-if-below : w < v → v ≤ w + others → ahead others (v % modulus others) (w % modulus others) ≡ w + modulus others - v
+  ahead-if-below : w < v → v ≤ w + others → ahead (modulus others) (v % modulus others) (w % modulus others) ≡ w + modulus others - v
   ahead-if-below low high =
       let m = modulus others in
       remainder-is m (w / m) (v / m) _ _ (omega arith) (omega (arith, divided others v, divided others w))
-
--- Of any two numbers below 2n - 1 one is at most n - 1 ahead of the other.
-pub either-ahead : (others v w : ℕ) → v < modulus others → w < modulus others → (ahead others v w ≤ others) ⊎ (ahead others w v ≤ others)
-either-ahead others v w small-v small-w = by-order v w (halves v w small-w) (λ more. swap (halves w v small-v (omega arith)))
-  where
-    halves : (v w : ℕ) → w < modulus others → v ≤ w → (ahead others v w ≤ others) ⊎ (ahead others w v ≤ others)
-    halves v w small low =
-        by-order w (v + others)
-        (λ near. inl (omega (arith, remainder-is (modulus others) 0 1 (w + (modulus others - v)) (w - v) (omega arith) (omega arith))))
-        (λ far. inr (omega (arith, remainder-is (modulus others) 0 0 (v + (modulus others - w)) _ (omega arith) refl)))
-
-    swap : {A B : Type 0} → A ⊎ B → B ⊎ A
-    swap = ⊎-elim inr inl
 
 -- the largest of three, by two of them at a time
 max-of-three : (a b c : ℕ) → max a (max b c) ≡ max (max a b) (max a c)
@@ -67,14 +53,14 @@ max-of-three a b c = omega arith
 
 -- The shift takes the larger of the pivot p and a token to the larger of the two shifted,
 larger-shifted : (others p : ℕ) (t : Token) → ((v : ℕ) → t ≡ held v → Near others p v)
-    → max (held others) (shifted others (p % modulus others) (reduced others t)) + p ≡ max (held p) t + others
+    → max (held others) (shifted (modulus others) others (p % modulus others) (reduced others t)) + p ≡ max (held p) t + others
 unfolding shifted
 larger-shifted others p zero near = omega arith
 larger-shifted others p (suc v) near = omega (arith, shift-is others p v (near v refl), near v refl)
 
 -- and so the largest of the pivot and the cells to the largest of all shifted.
 largest-shifted : (others p : ℕ) (cell : ℕ → Token) (n : ℕ) → ((k v : ℕ) → Process n k → cell k ≡ held v → Near others p v)
-    → max (held others) (largest (λ k. shifted others (p % modulus others) (reduced others (cell k))) n) + p
+    → max (held others) (largest (λ k. shifted (modulus others) others (p % modulus others) (reduced others (cell k))) n) + p
     ≡ max (held p) (largest cell n) + others
 unfolding largest
 largest-shifted others p cell zero near = omega arith
@@ -88,7 +74,7 @@ largest-shifted others p cell (suc n) near =
 
 -- Lemma 1. Where the tokens read at line 2 cluster around the pivot, the next token on f of them is f of the next token.
 pub lemma-1 : (others p : ℕ) (cell : ℕ → Token) → ((k v : ℕ) → Process (suc others) k → cell k ≡ held v → Near others p v)
-    → nextBounded others (reduced others (held p)) (λ k. reduced others (cell k)) ≡ reduced others (nextUnbounded others (held p) cell)
+    → nextBounded (modulus others) others (reduced others (held p)) (λ k. reduced others (cell k)) ≡ reduced others (nextUnbounded others (held p) cell)
 unfolding nextBounded nextUnbounded shifted
 lemma-1 others p cell near =
     rw (number-of-held (p % modulus others))
@@ -97,7 +83,7 @@ lemma-1 others p cell near =
 
 -- Lemma 2. Where the token read at line 7 is near the reader's own, the reader goes before on f of them if and only if it goes before.
 pub lemma-2 : (others i v j w : ℕ) → Near others v w
-    → beforeBounded others i (reduced others (held v)) j (reduced others (held w)) ≡ beforeUnbounded i (held v) j (held w)
+    → beforeBounded (modulus others) others i (reduced others (held v)) j (reduced others (held w)) ≡ beforeUnbounded i (held v) j (held w)
 unfolding beforeBounded beforeUnbounded
 lemma-2 others i v j w near =
     rw (number-of-held (v % modulus others), number-of-held (w % modulus others))

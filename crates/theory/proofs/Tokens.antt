@@ -58,30 +58,35 @@ beforeUnbounded i t j u = ltb t u || eqb t u && ltb i j
 abbrev pub unboundedMachine : ℕ → Machine
 unboundedMachine others = record { next = nextUnbounded others; goesBefore = beforeUnbounded }
 
--- B-Bakery, on remainders. (v + n - 1 - p) mod (2n - 1), where p is below 2n - 1: p at the middle, n - 1 on either side of it.
-abbrev pub shift : ℕ → ℕ → ℕ → ℕ
-shift others p v = (v + others + (modulus others - p)) % modulus others
+-- B-Bakery, on remainders modulo M. (v + n - 1 - p) mod M, where p is below M: of 2n - 1 numbers p is at the middle, n - 1 on either side
+-- of it.
+abbrev pub shift : ℕ → ℕ → ℕ → ℕ → ℕ
+shift M others p v = (v + others + (M - p)) % M
 
-unfoldable pub shifted : ℕ → ℕ → Token → Token
-shifted others p zero = none
-shifted others p (suc v) = held (shift others p v)
+unfoldable pub shifted : ℕ → ℕ → ℕ → Token → Token
+shifted M others p zero = none
+shifted M others p (suc v) = held (shift M others p v)
 
--- the largest of the shifted pivot and cells, shifted back, and one more: (m + p - n + 2) mod (2n - 1), with 2n - 1 added before
-unfoldable pub nextBounded : ℕ → Token → (ℕ → Token) → Token
-nextBounded others pivot cell =
+-- the largest of the shifted pivot and cells, shifted back, and one more: (m + p - n + 2) mod M, with M added before
+unfoldable pub nextBounded : ℕ → ℕ → Token → (ℕ → Token) → Token
+nextBounded M others pivot cell =
     let p = numberOf pivot in
-    let m = max (shifted others p pivot) (largest (λ k. shifted others p (cell k)) (suc others)) in
-    held ((numberOf m + p + others + 2) % modulus others)
+    let m = max (shifted M others p pivot) (largest (λ k. shifted M others p (cell k)) (suc others)) in
+    held ((numberOf m + p + (M - suc others) + 2) % M)
 
--- how far w is ahead of v, going round: (w - v) mod (2n - 1), where v is below 2n - 1
+-- how far w is ahead of v, going round: (w - v) mod M, where v is below M
 abbrev pub ahead : ℕ → ℕ → ℕ → ℕ
-ahead others v w = (w + (modulus others - v)) % modulus others
+ahead M v w = (w + (M - v)) % M
 
 -- source 002's [t, i] ≺ [u, j], where both tokens are shifted by n - 1 - t: u's is then the larger where u is 1 to n - 1 ahead of t
-unfoldable pub beforeBounded : ℕ → ℕ → Token → ℕ → Token → Bool
-beforeBounded others i t j u =
-    let d = ahead others (numberOf t) (numberOf u) in
+unfoldable pub beforeBounded : ℕ → ℕ → ℕ → Token → ℕ → Token → Bool
+beforeBounded M others i t j u =
+    let d = ahead M (numberOf t) (numberOf u) in
     within 1 others d || eqb d 0 && ltb i j
 
+-- the machine on remainders modulo M; B-Bakery is the one modulo 2n - 1
+abbrev pub machineModulo : ℕ → ℕ → Machine
+machineModulo M others = record { next = nextBounded M others; goesBefore = beforeBounded M others }
+
 abbrev pub boundedMachine : ℕ → Machine
-boundedMachine others = record { next = nextBounded others; goesBefore = beforeBounded others }
+boundedMachine others = machineModulo (modulus others) others
