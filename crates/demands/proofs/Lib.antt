@@ -1,6 +1,7 @@
 pub mod Computed
 pub mod Bench
 pub mod RoundTrips
+pub mod Passage
 pub mod Views
 pub mod From1
 pub mod RowFacts
