@@ -189,7 +189,7 @@ fn passes(algorithm: u8, n: u8, i: u8, s: Seen, r: Row) -> bool
     requires { ⌜ Count n ⌝ }
     ensures { λ b. ⌜ b ≡ passes algorithm n i s r ⌝ }
 {
-    if token_seen(s).equals(Value(NONE)) {
+    if token_seen(s).is_none() {
         return true;
     }
     tokens::goes_before(algorithm, n, i, table::token_of(r), r.index, token_seen(s))

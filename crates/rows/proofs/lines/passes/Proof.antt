@@ -9,13 +9,13 @@ use Rattle.rows.proofs.lines.passes.Tie as tie
 token-seen-requires : tie.Need-token-seen-requires
 token-seen-requires c κs = search needs
 
-equals-requires : tie.Need-equals-requires
-equals-requires c κs = search needs
+is-none-requires : tie.Need-is-none-requires
+is-none-requires c κs = search needs
 
 returns : tie.Need-returns
 returns c =
     let b = c .before in
-    rw (ap isNone (sym (b .before .token-seen .ensures)) ∙ sym (b .equals .ensures) ∙ c .if1 .taken)
+    rw (ap isNone (sym (b .before .token-seen .ensures)) ∙ sym (b .is-none .ensures) ∙ c .if1 .taken)
 
 token-of-requires : tie.Need-token-of-requires
 token-of-requires c κs = search needs
@@ -32,7 +32,7 @@ returns-2 c =
     let b = d .before in
     let a = b .before .before .args in
     rw (
-      ap isNone (sym (b .before .token-seen .ensures)) ∙ sym (b .equals .ensures) ∙ d .if1 .left,
+      ap isNone (sym (b .before .token-seen .ensures)) ∙ sym (b .is-none .ensures) ∙ d .if1 .left,
       c .goes-before .ensures,
       c .before .token-seen2 .ensures,
       c .before .before .token-of .ensures,
@@ -44,7 +44,7 @@ passes-spec =
     tie.close
     (tie.spec
     token-seen-requires
-    equals-requires
+    is-none-requires
     returns
     token-of-requires
     token-seen-requires-2
