@@ -31,8 +31,8 @@ NotEmpty =
     (courseOf (freshTable unbounded 2) secondToken .stop ≡ noRefusal)
     × (meets 2 (after unbounded 2 secondToken) (after bounded 2 []) ≡ false)
 
--- Not modulo 2n - 2. The theory writes the bounded machine over its modulus (`crates/theory/proofs`), and a step of the one modulo 2n - 1 is
--- document 01's (`step-seen`). The state after the steps of a schedule, n being `suc others`:
+-- Not modulo 2n - 2. The theory writes the bounded machine over its modulus (`crates/theory/proofs`), and a step of the one modulo 2n - 1
+-- is document 01's (`step-seen`). The state after the steps of a schedule, n being `suc others`:
 unfoldable pub stateAfter : ℕ → Machine → State → List ℕ → State
 stateAfter others m s [] = s
 stateAfter others m s (i ∷ later) = stateAfter others m (step others m s i) later

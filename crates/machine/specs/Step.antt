@@ -27,7 +27,8 @@ takenOf t i =
     let a = anyLine (t .algorithm) (t .n) i (seenOf t (rowOf t i)) (rowOf t i) in
     record { table = putBack t i a; mark = a .mark; stop = a .stop }
 
--- "On refusal step returns the given table and the mark 0"
+-- "On refusal step returns the given table and the mark 0". Of refusal 5, which `takenOf` answers, and of a step that waits, the laws
+-- `step-refused` and `step-unmarked` say so (`crates/machine/proofs/Steps.antt`).
 abbrev pub refusedStep : Table → ℕ → Stepped
 refusedStep t stop = record { table = t; mark = 0; stop = stop }
 

@@ -1,5 +1,5 @@
 -- Numbers of four bytes: one that is written is read back, and one that is read is written again as the same bytes.
-use Prim.Native.Nat.{ℕ, suc, _+_, _-_, _*_, _/_, _%_, _<_, _^_}
+use Prim.Native.Nat.{ℕ, _+_, _-_, _*_, _/_, _%_, _<_, _^_}
 use mathlib.Core.Path.{_≡_, refl, ap, _∙_}
 use mathlib.Core.List.{List, [], _∷_}
 use native.Mathlib.Omega.{arith}
@@ -8,6 +8,7 @@ use lib.Dec.{ltb}
 use lib.IntN.{ℤ, pos, negsuc}
 use mir.Syntax.{w32}
 use mir.Val.{SFits}
+use Rattle.fields.specs.Numbers.{allBits}
 use Rattle.fields.proofs.Tests.{by-test}
 use Rattle.writer.specs.FourBytes.{bitsOf, fourDigits, fourBytes}
 use Rattle.writer.proofs.Signs.{bits-fit}
@@ -20,8 +21,8 @@ unfolding numberOf
 number-bits (pos a) f = rw (lt-ltb a (2 ^ 31) (f .sfits))
 number-bits (negsuc a) f =
     let small : a < 2 ^ 31 = f .sfits in
-    let back : 2 ^ 32 - suc (2 ^ 32 - suc a) ≡ a = omega arith in
-    rw (le-ltb (2 ^ 32 - suc a) (2 ^ 31) (omega arith), back)
+    let back : allBits - (allBits - a) ≡ a = omega arith in
+    rw (le-ltb (allBits - a) (2 ^ 31) (omega arith), back)
 
 bits-number : (bits : ℕ) → bits < 2 ^ 32 → bitsOf (numberOf bits) ≡ bits
 unfolding numberOf

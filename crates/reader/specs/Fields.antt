@@ -1,11 +1,11 @@
 -- Document 01, "Stored form": what stands at a place of a form, where its fields stand, and the table that they make.
-use Prim.Native.Nat.{ℕ, suc, _+_, _-_, _*_, _^_}
+use Prim.Native.Nat.{ℕ, _+_, _-_, _*_, _^_}
 use mathlib.Core.Bool.{cond}
 use mathlib.Core.List.{List, [], _∷_, _++_}
 use lib.Dec.{ltb}
 use lib.IntN.{ℤ, pos, negsuc}
 use lib.ListN.{getD, replicate}
-use Rattle.fields.specs.Numbers.{slots, none, topOf}
+use Rattle.fields.specs.Numbers.{slots, none, topOf, allBits}
 use Rattle.table.specs.Fresh.{freshRow}
 use Rattle.table.specs.declared.Row.{Row}
 use Rattle.table.specs.declared.Table.{Table}
@@ -13,7 +13,7 @@ use Rattle.writer.specs.Form.{inTurn, rowLength, formLength}
 
 -- the number of some bits: the upper half are the numbers below 0
 unfoldable pub numberOf : ℕ → ℤ
-numberOf bits = cond (ltb bits (2 ^ 31)) (pos bits) (negsuc (2 ^ 32 - suc bits))
+numberOf bits = cond (ltb bits (2 ^ 31)) (pos bits) (negsuc (allBits - bits))
 
 -- what stands in some bytes from a place on: a byte, and a number of four bytes
 abbrev pub byteAt : List ℕ → ℕ → ℕ

@@ -3,10 +3,8 @@ ghost use mathlib.Core.Path.{_≡_};
 ghost use Prim.Native.Nat.{_+_, _<_, _≤_};
 ghost use lib.ListN.{length};
 ghost use Rattle.reader.specs.Fields.{numberOf, bitsAt, numberAt};
+use fields::ALL_BITS;
 use fields::Value;
-
-// The bits of -1.
-const ALL_BITS: u32 = 4294967295;
 
 // The bits from here on are those of the numbers below zero.
 const SIGN_BIT: u32 = 2147483648;

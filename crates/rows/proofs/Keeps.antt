@@ -11,7 +11,7 @@ use lib.Signed.{leZ}
 use lib.ListN.{length, length-set, length-replicate, getD-replicate}
 use lib.Seq.{getD-set-same, getD-set-other}
 use Rattle.fields.specs.Tests.{within, withinℤ}
-use Rattle.fields.specs.Numbers.{slots, none, isNone, limitOf, topOf}
+use Rattle.fields.specs.Numbers.{slots, firstLine, lastLine, none, isNone, limitOf, topOf}
 use Rattle.fields.specs.Rules.{xOk, lineOk, indexOk, choosingOk, tokenOk, pivotOk, mayHold, cellOk}
 use Rattle.table.specs.WellFormed.{cellOf, cellRule}
 use Rattle.fields.specs.Refusals.{noRefusal, aboveTokenLimit}
@@ -68,7 +68,7 @@ module _ {algorithm n i : ℕ} {s : Seen} {r : Row} (some : 1 ≤ n) (most : n �
   rules-at : {k : ℕ} → r .line ≡ k → RowRules (topOf algorithm n) n i (withLine k r)
   rules-at e = subst (λ (k : ℕ). RowRules (topOf algorithm n) n i (withLine k r)) e rules
 
-  line-ok : (k : ℕ) → within 1 10 k ≡ true → lineOk n i k ≡ true
+  line-ok : (k : ℕ) → within firstLine lastLine k ≡ true → lineOk n i k ≡ true
   unfolding lineOk
   line-ok k h = rw (le-leb i n) h
 

@@ -5,7 +5,7 @@ use mathlib.Core.Bool.{true, _&&_}
 use borrow.Author.Tests.{le-leb, leb-true}
 use lib.Dec.{leb}
 use Rattle.fields.specs.Tests.{within}
-use Rattle.fields.specs.Numbers.{slots}
+use Rattle.fields.specs.Numbers.{slots, firstLine, lastLine}
 use Rattle.fields.specs.Rules.{countOk}
 use Rattle.table.specs.declared.Row.{Row}
 use Rattle.fields.proofs.Tests.{and-both, and-halves}
@@ -17,7 +17,7 @@ use Rattle.rows.specs.declared.Seen.{Seen}
 -- what the test of `advance` tells
 pub is-ready : (n : ℕ) (r : Row) → isReady n r ≡ true → Ready n r
 is-ready n r e =
-    let at = and-halves (countOk n && leb (r .index) slots) (within 1 10 (r .line)) e in
+    let at = and-halves (countOk n && leb (r .index) slots) (within firstLine lastLine (r .line)) e in
     let halves = and-halves (countOk n) (leb (r .index) slots) (at .0) in
     record { count = is-count n (halves .0); index = leb-true (r .index) slots (halves .1); line = at .1 }
 

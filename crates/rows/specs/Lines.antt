@@ -4,7 +4,7 @@ use mathlib.Core.Bool.{Bool, cond, _&&_, _||_}
 use lib.Dec.{leb, eqb}
 use lib.IntN.{ℤ}
 use Rattle.fields.specs.Tests.{within}
-use Rattle.fields.specs.Numbers.{slots, none, isNone}
+use Rattle.fields.specs.Numbers.{slots, firstLine, lastLine, none, isNone}
 use Rattle.fields.specs.Refusals.{noRefusal, notWellFormed, aboveTokenLimit}
 use Rattle.fields.specs.Rules.{countOk}
 use Rattle.table.specs.Fresh.{allNone}
@@ -17,7 +17,8 @@ use Rattle.rows.specs.declared.Advanced.{Advanced}
 
 -- What a step answers: "a mark that is 1 if the table changed and 0 if not, and a stop number, 0 if none".
 
--- the row changed, X too where it is written
+-- the row changed, X too where it is written. That the mark is 1 just where the table changed is said by the laws `step-marked` and
+-- `step-unmarked` (`crates/machine/proofs/Steps.antt`).
 abbrev pub moves : ℤ → Row → Advanced
 moves x r = record { row = r; x = x; mark = 1; stop = noRefusal }
 
@@ -113,7 +114,7 @@ anyLine algorithm n i s r = lineStep (r .line) algorithm n i s r
 
 -- a count, an index and a line that a table may have
 abbrev pub isReady : ℕ → Row → Bool
-isReady n r = countOk n && leb (r .index) slots && within 1 10 (r .line)
+isReady n r = countOk n && leb (r .index) slots && within firstLine lastLine (r .line)
 
 -- the answer of `advance`: a count, an index or a line that no table has is refused by 3
 unfoldable pub advanceOf : ℕ → ℕ → ℕ → Seen → Row → Advanced

@@ -3,7 +3,7 @@ use Prim.Native.Nat.{ℕ, _≤_}
 use mathlib.Core.Path.{_≡_}
 use mathlib.Core.Bool.{true}
 use Rattle.fields.specs.Tests.{within}
-use Rattle.fields.specs.Numbers.{slots}
+use Rattle.fields.specs.Numbers.{slots, firstLine, lastLine}
 use Rattle.table.specs.declared.Row.{Row}
 use Rattle.tokens.specs.Count.{Count}
 
@@ -11,4 +11,4 @@ use Rattle.tokens.specs.Count.{Count}
 pub record Ready (n : ℕ) (r : Row) : Type 0 where
   pub count : Count n
   pub index : r .index ≤ slots
-  pub line : within 1 10 (r .line) ≡ true
+  pub line : within firstLine lastLine (r .line) ≡ true

@@ -3,6 +3,8 @@ mod lines;
 
 ghost use mathlib.Core.Path.{_≡_};
 ghost use Rattle.rows.specs.Lines.{isReady, advanceOf};
+use fields::FIRST_LINE;
+use fields::LAST_LINE;
 use fields::MOST_PROCESSES;
 use fields::Value;
 use fields::refusal;
@@ -40,7 +42,9 @@ pub fn seen_of(x: Value, other: Row) -> Seen
 fn is_ready(n: u8, r: Row) -> bool
     ensures { λ b. ⌜ b ≡ isReady n r ⌝ }
 {
-    fields::count_ok(n) & (r.index <= MOST_PROCESSES) & fields::number_within(1, 10, r.line)
+    fields::count_ok(n)
+        & (r.index <= MOST_PROCESSES)
+        & fields::number_within(FIRST_LINE, LAST_LINE, r.line)
 }
 
 // One step of process i, whose row is r and who sees s: what `step` does to a row of its table. Refusal 3 for a count, an index or

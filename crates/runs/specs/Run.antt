@@ -5,7 +5,7 @@ use mathlib.Core.List.{List, [], _∷_, _++_, map}
 use lib.Dec.{leb, eqb}
 use lib.ListN.{length}
 use Rattle.fields.specs.Tests.{within, howMany}
-use Rattle.fields.specs.Numbers.{slots, scheduleLimit}
+use Rattle.fields.specs.Numbers.{slots, lineOfEntry, scheduleLimit}
 use Rattle.fields.specs.Refusals.{noRefusal, notWellFormed, scheduleTooLong, entriesTooShort}
 use Rattle.table.specs.WellFormed.{rowOf, wellFormed}
 use Rattle.table.specs.Lent.{inFront}
@@ -64,9 +64,6 @@ unfoldable pub waitedIn : List Turn → ℕ
 waitedIn us = length (those unchanged us)
 
 -- "Entries is the count of line 8 steps taken"
-abbrev pub lineOfEntry : ℕ
-lineOfEntry = 8
-
 abbrev pub isEntry : Turn → Bool
 isEntry u = eqb (u .line) lineOfEntry
 

@@ -5,10 +5,12 @@ ghost use Prim.Native.Nat.{_+_, _-_, _<_, _≤_};
 ghost use lib.Dec.{eqb};
 ghost use lib.ListN.{length, set};
 ghost use Rattle.fields.specs.Tests.{within};
+ghost use Rattle.fields.specs.Numbers.{lineOfEntry};
 ghost use Rattle.table.specs.WellFormed.{wellFormed};
 ghost use Rattle.table.specs.Lent.{inFront};
-ghost use Rattle.runs.specs.Run.{courseOf, enteredIn, lineOfEntry, waitingOf, answerOf, refusedRun, runOf, bufferOf};
+ghost use Rattle.runs.specs.Run.{courseOf, enteredIn, waitingOf, answerOf, refusedRun, runOf, bufferOf};
 ghost use Rattle.runs.specs.Ended.{endedRun};
+use fields::LINE_OF_ENTRY;
 use fields::SCHEDULE_LIMIT;
 use fields::SLOTS;
 use fields::Value;
@@ -28,9 +30,6 @@ pub struct Ran {
     pub place: usize,
     pub stop: u8,
 }
-
-// The line whose step is the entry.
-const ENTRY_LINE: u8 = 8;
 
 // 1 for a row that waits, at line 6 or 7, and 0 for another.
 fn waits_at(line: u8) -> usize
@@ -94,7 +93,7 @@ fn note_entry(entries: &mut [u8], count: usize, line: u8, i: u8) -> usize
     ensures { λ c. ⌜ c ≡ count + cond (eqb line lineOfEntry) 1 0 ⌝ }
     ensures { λ _. ⌜ now (entries .exit) ≡ cond (eqb line lineOfEntry) (set (now (entries .entry)) count i) (now (entries .entry)) ⌝ }
 {
-    if line == ENTRY_LINE {
+    if line == LINE_OF_ENTRY {
         entries[count] = i;
         return count + 1;
     }

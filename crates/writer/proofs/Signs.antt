@@ -9,20 +9,21 @@ use lib.Signed.{ltZ, mag}
 use mir.Syntax.{w32}
 use mir.Val.{toZ, ofZ, SFits}
 use mir.Facts.{toZ-ofZ, toZ-pos}
+use Rattle.fields.specs.Numbers.{allBits}
 use Rattle.writer.specs.FourBytes.{bitsOf}
 
 -- code tests the number in the bits
 tested : {z : ℤ} {t : Bool} → SFits w32 z → ltZ (toZ w32 (ofZ w32 z)) (pos 0) ≡ t → ltZ z (pos 0) ≡ t
 tested f e = rw (toZ-ofZ f) at e
 
--- a number below 0: what `!` gives is not below 0, and its distance from 2 ^ 32 - 1 is the bits
-pub flipped : (z : ℤ) → SFits w32 z → ltZ (toZ w32 (ofZ w32 z)) (pos 0) ≡ true → toZ w32 (4294967295 - ofZ w32 z) ≡ pos (mag z)
+-- a number below 0: what `!` gives is not below 0, and its distance from the bits of -1 is the bits
+pub flipped : (z : ℤ) → SFits w32 z → ltZ (toZ w32 (ofZ w32 z)) (pos 0) ≡ true → toZ w32 (allBits - ofZ w32 z) ≡ pos (mag z)
 flipped (pos a) f below = absurd (omega (arith, ltb-true a 0 (tested f below)))
 flipped (negsuc a) f below =
-    let e : 4294967295 - (2 ^ 32 - suc a) ≡ a = omega (arith, f .sfits) in
+    let e : allBits - (2 ^ 32 - suc a) ≡ a = omega (arith, f .sfits) in
     rw e (toZ-pos w32 (f .sfits))
 
-pub bits-below : (z : ℤ) → SFits w32 z → ltZ (toZ w32 (ofZ w32 z)) (pos 0) ≡ true → 4294967295 - mag z ≡ bitsOf z
+pub bits-below : (z : ℤ) → SFits w32 z → ltZ (toZ w32 (ofZ w32 z)) (pos 0) ≡ true → allBits - mag z ≡ bitsOf z
 bits-below (pos a) f below = absurd (omega (arith, ltb-true a 0 (tested f below)))
 bits-below (negsuc a) f below = omega (arith, f .sfits)
 

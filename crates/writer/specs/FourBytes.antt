@@ -1,12 +1,13 @@
 -- Document 01, "Stored form": "Numbers of four bytes are little-endian; -1 is four bytes of 255."
-use Prim.Native.Nat.{ℕ, suc, _-_, _/_, _%_, _^_}
+use Prim.Native.Nat.{ℕ, _-_, _/_, _%_}
 use mathlib.Core.List.{List, [], _∷_}
 use lib.IntN.{ℤ, pos, negsuc}
+use Rattle.fields.specs.Numbers.{allBits}
 
--- A number as its 32 bits. Those below 0 count down from 2 ^ 32, so that -1 has the bits of four bytes of 255.
+-- A number as its 32 bits. Those below 0 count down from -1, which has all bits.
 abbrev pub bitsOf : ℤ → ℕ
 bitsOf (pos a) = a
-bitsOf (negsuc a) = 2 ^ 32 - suc a
+bitsOf (negsuc a) = allBits - a
 
 -- "little-endian": the lowest byte comes first
 unfoldable pub fourDigits : ℕ → List ℕ

@@ -5,10 +5,8 @@ ghost use Prim.Native.Nat.{_+_, _≤_};
 ghost use lib.ListN.{length};
 ghost use Rattle.table.specs.Lent.{Written};
 ghost use Rattle.writer.specs.FourBytes.{bitsOf, fourBytes};
+use fields::ALL_BITS;
 use fields::Value;
-
-// The bits of -1.
-const ALL_BITS: u32 = 4294967295;
 
 // The bits of a number. `!` of one below zero is how far it is from -1.
 fn bits_of(v: Value) -> u32
