@@ -8,13 +8,13 @@ use lib.Dec.{eqb}
 use lib.IntN.{ℤ, pos, negsuc}
 use lib.ListN.{length}
 use Rattle.fields.specs.Tests.{within, howMany}
-use Rattle.fields.specs.Numbers.{slots, modulusOf}
+use Rattle.fields.specs.Numbers.{slots, firstLine, lastLine, modulusOf}
 use Rattle.fields.specs.Rules.{indexOk, choosingOk}
 use Rattle.table.specs.WellFormed.{rowOf, cellOf, cellRule}
 use Rattle.table.specs.declared.Row.{Row}
 use Rattle.table.specs.declared.Table.{Table}
 use Rattle.fields.proofs.Tests.{and-both, every-all, many-at-most-one}
-use Rattle.table.proofs.WellFormed.{RowRules, table-rules, above-fresh}
+use Rattle.table.proofs.WellFormed.{RowRules, table-rules, line-range, above-fresh}
 use Rattle.theory.proofs.Counting.{Process, by-order}
 use Rattle.theory.proofs.Tokens.{modulus, reduced}
 use Rattle.theory.proofs.Model.{Place, at1, at2, at3, at4, at5, at6, at7, at8, at9, at10}
@@ -26,7 +26,7 @@ use Rattle.demands.specs.Agreement.{f, isRemainder, cellAgrees, rowAgree
 use Rattle.demands.proofs.Views.{tokenOf, placeOf, rowView, view}
 use Rattle.demands.proofs.From1.{row-from1, cell-from1}
 use Rattle.demands.proofs.Tables.{TableFor, some-process}
-use Rattle.demands.proofs.RowFacts.{each-line, line-range, FromNone, from-zero, token-from-none, pivot-from-none, cell-from-none}
+use Rattle.demands.proofs.RowFacts.{each-line, FromNone, from-zero, token-from-none, pivot-from-none, cell-from-none}
 
 -- Places.
 
@@ -56,12 +56,12 @@ indexOf at9 = 0
 indexOf at10 = 0
 
 -- a place shows the line that it is made of,
-line-of-place : (index line : ℕ) → 1 ≤ line → line ≤ 10 → lineOf (placeOf line index) ≡ line
+line-of-place : (index line : ℕ) → within firstLine lastLine line ≡ true → lineOf (placeOf line index) ≡ line
 unfolding lineOf
 line-of-place index = each-line (λ (k : ℕ). lineOf (placeOf k index) ≡ k) refl refl refl refl refl refl refl refl refl refl
 
 -- the index, where it keeps its rule,
-index-of-place : (n i index line : ℕ) → 1 ≤ line → line ≤ 10 → indexOk n i line index ≡ true → indexOf (placeOf line index) ≡ index
+index-of-place : (n i index line : ℕ) → within firstLine lastLine line ≡ true → indexOk n i line index ≡ true → indexOf (placeOf line index) ≡ index
 unfolding indexOf indexOk
 index-of-place n i index =
     each-line (λ (k : ℕ). indexOk n i k index ≡ true → indexOf (placeOf k index) ≡ index)
@@ -74,7 +74,7 @@ index-of-place n i index =
     without e = sym (eqb-true index 0 e)
 
 -- and whether the line is one of 8 to 10
-critical-place : (index line : ℕ) → 1 ≤ line → line ≤ 10 → theory.isCritical (placeOf line index) ≡ isCriticalLine line
+critical-place : (index line : ℕ) → within firstLine lastLine line ≡ true → theory.isCritical (placeOf line index) ≡ isCriticalLine line
 critical-place index =
     each-line (λ (k : ℕ). theory.isCritical (placeOf k index) ≡ isCriticalLine k) refl refl refl refl refl refl refl refl refl refl
 
@@ -99,17 +99,17 @@ number-agrees others (negsuc v) (negsuc w) l e = eq-eqb w 0 (omega (arith, leb-t
 
 -- a row that keeps its rules: the place in its view shows its line, its index, and whether the line is one of 8 to 10
 module _ {top : ℤ} {n i : ℕ} {r : Row} (rules : RowRules top n i r) where
-  range : (1 ≤ r .line) × (r .line ≤ 10)
+  range : within firstLine lastLine (r .line) ≡ true
   range = line-range n i (r .line) (rules .line)
 
   line-shown : lineOf (rowView r .place) ≡ r .line
-  line-shown = line-of-place (r .index) (r .line) (range .0) (range .1)
+  line-shown = line-of-place (r .index) (r .line) range
 
   index-shown : indexOf (rowView r .place) ≡ r .index
-  index-shown = index-of-place n i (r .index) (r .line) (range .0) (range .1) (rules .index)
+  index-shown = index-of-place n i (r .index) (r .line) range (rules .index)
 
   critical-shown : theory.isCritical (rowView r .place) ≡ isCriticalLine (r .line)
-  critical-shown = critical-place (r .index) (r .line) (range .0) (range .1)
+  critical-shown = critical-place (r .index) (r .line) range
 
 -- two rows that keep their rules, where the view of the second is the remainders of the first's
 module _ {others i n₁ n₂ : ℕ} {top₁ top₂ : ℤ} {u b : Row} (rules-u : RowRules top₁ n₁ i u) (rules-b : RowRules top₂ n₂ i b)

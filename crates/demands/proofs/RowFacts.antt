@@ -1,33 +1,25 @@
 -- What the view of a row needs of the row's rules: that the line is one of ten, and that no number is below -1.
-use Prim.Native.Nat.{ℕ, _≤_}
+use Prim.Native.Nat.{ℕ}
 use mathlib.Core.Path.{_≡_, refl}
 use mathlib.Core.Bool.{Bool, true, false≢true}
 use native.Mathlib.Omega.{arith}
-use borrow.Author.Tests.{eqb-true}
-use lib.Dec.{leb, eqb}
+use lib.Dec.{eqb}
 use lib.IntN.{ℤ, pos, negsuc}
 use lib.Signed.{leZ}
 use Rattle.fields.specs.Tests.{within, withinℤ}
-use Rattle.fields.specs.Numbers.{none, isNone}
-use Rattle.fields.specs.Rules.{lineOk, tokenOk, pivotOk, cellOk}
+use Rattle.fields.specs.Numbers.{firstLine, lastLine, none, isNone}
+use Rattle.fields.specs.Rules.{tokenOk, pivotOk, cellOk}
 use Rattle.fields.proofs.Tests.{up-to-next, by-test, and-halves, within-low, within-high}
 use Rattle.table.proofs.WellFormed.{is-none}
 
 -- what holds of each of the ten lines holds of a line that is 1 to 10
 pub each-line : (P : ℕ → Type 0) → P 1 → P 2 → P 3 → P 4 → P 5 → P 6 → P 7 → P 8 → P 9 → P 10
-    → (line : ℕ) → 1 ≤ line → line ≤ 10 → P line
-each-line P p1 p2 p3 p4 p5 p6 p7 p8 p9 p10 =
-    up-to-next P 9 (up-to-next P 8 (up-to-next P 7 (up-to-next P 6 (up-to-next P 5
+    → (line : ℕ) → within firstLine lastLine line ≡ true → P line
+each-line P p1 p2 p3 p4 p5 p6 p7 p8 p9 p10 line e =
+    (up-to-next P 9 (up-to-next P 8 (up-to-next P 7 (up-to-next P 6 (up-to-next P 5
     (up-to-next P 4 (up-to-next P 3 (up-to-next P 2 (up-to-next P 1 (up-to-next P 0
-    (λ i low high. absurd (omega arith)) p1) p2) p3) p4) p5) p6) p7) p8) p9) p10
-
--- a line that keeps its rule is 1 to 10, also in a row above n
-pub line-range : (n i line : ℕ) → lineOk n i line ≡ true → (1 ≤ line) × (line ≤ 10)
-unfolding lineOk
-line-range n i line =
-    by-test (λ (ok : Bool). ok ≡ true → (1 ≤ line) × (line ≤ 10)) (leb i n)
-    (λ _ e. (within-low 1 10 line e, within-high 1 10 line e))
-    (λ _ e. let first : line ≡ 1 = eqb-true line 1 e in (omega arith, omega arith))
+    (λ i low high. absurd (omega arith)) p1) p2) p3) p4) p5) p6) p7) p8) p9) p10)
+    line (within-low firstLine lastLine line e) (within-high firstLine lastLine line e)
 
 -- from -1 on: of such a number the view loses nothing
 abbrev pub FromNone : ℤ → Type 0

@@ -15,7 +15,7 @@ use Rattle.fields.specs.Rules.{indexOk, choosingOk, tokenOk, pivotOk, mayHold, 
 use Rattle.table.specs.WellFormed.{cellRule}
 use Rattle.table.specs.declared.Row.{Row}
 use Rattle.fields.proofs.Tests.{by-test, and-halves, within-low, within-high}
-use Rattle.table.proofs.WellFormed.{RowRules, is-none}
+use Rattle.table.proofs.WellFormed.{RowRules, is-none, line-range}
 use Rattle.tokens.specs.Tokens.{nextToken, goesBefore}
 use Rattle.tokens.specs.Answers.{isAboveLimit}
 use Rattle.rows.specs.Setters.{withLine, withIndex, withChoosing, withCell}
@@ -30,17 +30,16 @@ use Rattle.theory.proofs.Model.{rowAfter, xAfter}
 use Rattle.theory.proofs.Model as model
 use Rattle.demands.proofs.Views.{tokenOf, placeOf, rowView, machineOf}
 use Rattle.demands.proofs.From1.{from1-set-view, each-cell, all-none-view}
-use Rattle.demands.proofs.RowFacts.{each-line, line-range, FromNone, cell-from-none}
+use Rattle.demands.proofs.RowFacts.{each-line, FromNone, cell-from-none}
 use Rattle.demands.proofs.TokenViews.{CellsFor, next-token-view, goes-before-view}
 
 -- the choosing flag of a row that keeps its rules is 0 just where the theory's process is not choosing
 pub choosing-view : {top : ℤ} {n i : ℕ} {r : Row} → RowRules top n i r → not (isChoosing (rowView r .place)) ≡ eqb (r .choosing) 0
 unfolding choosingOk
 choosing-view {top} {n} {i} {r} rules =
-    let range = line-range n i (r .line) (rules .line) in
     each-line (λ (line : ℕ). choosingOk line (r .choosing) ≡ true → not (isChoosing (placeOf line (r .index))) ≡ eqb (r .choosing) 0)
     sym flag flag flag flag sym sym sym sym sym
-    (r .line) (range .0) (range .1) (rules .choosing)
+    (r .line) (line-range n i (r .line) (rules .line)) (rules .choosing)
   where
     flag : eqb (r .choosing) 1 ≡ true → false ≡ eqb (r .choosing) 0
     flag is-set = rw (eqb-true (r .choosing) 1 is-set)
@@ -211,7 +210,6 @@ module _ (algorithm n i : ℕ) (s : State) where
         → Follows (rowView r .place) (anyLine algorithm n i seen r)
     unfolding anyLine lineStep
     advance-view rules =
-        let range = line-range n i (r .line) (rules .line) in
         each-line
         (λ (line : ℕ). r .line ≡ line → RulesAt line → lineStep line algorithm n i seen r .stop ≡ noRefusal
         → Follows (placeOf line (r .index)) (lineStep line algorithm n i seen r))
@@ -225,4 +223,4 @@ module _ (algorithm n i : ℕ) (s : State) where
         (λ _ _ _. line8-view)
         (λ _ _ _. line9-view)
         (λ _ _ _. line10-view)
-        (r .line) (range .0) (range .1) refl rules
+        (r .line) (line-range n i (r .line) (rules .line)) refl rules

@@ -17,5 +17,5 @@ ready t i w p =
     let low = within-low 1 (t .n) i p in
     let high = within-high 1 (t .n) i p in
     let index = index-range (t .n) i _ _ (rules .rows i low (omega arith) .index) in
-    let line = line-range (t .n) i _ high (rules .rows i low (omega arith) .line) in
+    let line = line-range (t .n) i _ (rules .rows i low (omega arith) .line) in
     (omega arith, record { count = record { some = rules .some; most = rules .most }; index = omega arith; line = line })

@@ -1,7 +1,7 @@
 -- A well-formed table, rule by rule; its rows above n are fresh rows; every answer of `fresh` is well formed.
 use Prim.Native.Nat.{ℕ, suc, _-_, _<_, _≤_}
-use mathlib.Core.Path.{_≡_, refl, sym, ap, subst, _∙_}
-use mathlib.Core.Bool.{Bool, true, cond, not, false≢true}
+use mathlib.Core.Path.{_≡_, refl, sym, ap, _∙_}
+use mathlib.Core.Bool.{Bool, true, not, false≢true}
 use native.Mathlib.Omega.{arith}
 use borrow.Author.Tests.{le-leb, lt-leb, eqb-true}
 use lib.Dec.{leb, eqb}
@@ -9,7 +9,7 @@ use lib.IntN.{ℤ, pos, negsuc}
 use lib.ListN.{length, getD, length-replicate, getD-replicate}
 use lib.Seq.{ext-getD}
 use Rattle.fields.specs.Tests.{within, withinℤ}
-use Rattle.fields.specs.Numbers.{slots, none, isNone, unbounded, limitOf, topOf}
+use Rattle.fields.specs.Numbers.{slots, firstLine, lastLine, none, isNone, unbounded, limitOf, topOf}
 use Rattle.fields.specs.Rules.{algorithmOk, countOk, xOk, lineOk, indexOk, choosingOk, tokenOk, pivotOk, mayHold, cellOk}
 use Rattle.table.specs.WellFormed.{rowOf, cellOf, noRow, cellRule, cellsOk, rowOk, rowRule, rowsOk, wellFormed}
 use Rattle.table.specs.Fresh.{allNone, freshRow, freshTable, freshOf}
@@ -85,10 +85,13 @@ pub is-none : (v : ℤ) → isNone v ≡ true → v ≡ none
 is-none (pos a) e = absurd (false≢true e)
 is-none (negsuc a) e = ap negsuc (eqb-true a 0 e)
 
--- a line of one of n processes that keeps its rule is 1 to 10
-pub line-range : (n i line : ℕ) → i ≤ n → lineOk n i line ≡ true → within 1 10 line ≡ true
+-- a line that keeps its rule is 1 to 10, also in a row above n
+pub line-range : (n i line : ℕ) → lineOk n i line ≡ true → within firstLine lastLine line ≡ true
 unfolding lineOk
-line-range n i line h e = subst (λ (b : Bool). cond b (within 1 10 line) (eqb line 1) ≡ true) (le-leb i n h) e
+line-range n i line =
+    by-test (λ (ok : Bool). ok ≡ true → within firstLine lastLine line ≡ true) (leb i n)
+    (λ _ e. e)
+    (λ _ e. rw (eqb-true line 1 e))
 
 -- an index that keeps its rule names a process, or none by 0
 pub index-range : (n i line index : ℕ) → indexOk n i line index ≡ true → index ≤ n
