@@ -1,7 +1,6 @@
 pub mod Computed
 pub mod Bench
 pub mod RoundTrips
-pub mod Passage
 pub mod Views
 pub mod From1
 pub mod RowFacts
@@ -14,3 +13,4 @@ pub mod Mirrors
 pub mod SideBySide
 pub mod ForEver
 pub mod Sharp
+pub mod Passage

@@ -1,19 +1,20 @@
 -- A passage without waits, proved: the steps of a process alone, from its last ones back to its first, since what is left of the passage is
 -- what each step goes on with.
-use Prim.Native.Nat.{ℕ, zero, suc, _+_, _*_, _-_, _<_, _≤_}
+use Prim.Native.Nat.{ℕ, zero, suc, _+_, _*_, _-_, _%_, _<_, _≤_}
 use mathlib.Core.Path.{_≡_, refl, sym, ap, subst, _∙_}
 use mathlib.Core.Bool.{Bool, true, false, cond, _&&_}
 use mathlib.Core.List.{List, [], _∷_, _++_, map, flatten}
 use native.Mathlib.Omega.{arith}
+use native.Mathlib.Nat.{mod-eq-of-lt, add-mod-right}
 use native.Mathlib.Numerals.{add-one}
 use borrow.Author.Tests.{le-leb, lt-leb, eq-eqb, ne-eqb}
 use lib.Dec.{eqb}
-use lib.IntN.{ℤ, pos}
+use lib.IntN.{ℤ, pos, _+ℤ_, _-ℤ_}
 use lib.Signed.{ltZ}
 use lib.ListN.{length, set, replicate, length-append, length-replicate, length-map, getD-replicate}
 use lib.Seq.{getD-set-same, getD-set-other, set-getD, set-set}
 use Rattle.fields.specs.Tests.{within, howMany}
-use Rattle.fields.specs.Numbers.{slots, none, unbounded, tokenLimit}
+use Rattle.fields.specs.Numbers.{slots, none, unbounded, modulusOf, tokenLimit}
 use Rattle.fields.specs.Refusals.{noRefusal}
 use Rattle.fields.specs.Rules.{algorithmOk, countOk}
 use Rattle.table.specs.WellFormed.{rowOf, noRow}
@@ -21,7 +22,7 @@ use Rattle.table.specs.Fresh.{allNone, freshRow, freshTable}
 use Rattle.table.specs.declared.Row.{Row}
 use Rattle.table.specs.declared.Table.{Table}
 use Rattle.fields.proofs.Tests.{and-both, within-high, within-yes}
-use Rattle.tokens.specs.Tokens.{largest, nextUb, nextB, nextToken}
+use Rattle.tokens.specs.Tokens.{remainder, largest, shifted, shiftedCell, nextUb, nextB, nextToken}
 use Rattle.tokens.specs.Answers.{isAboveLimit}
 use Rattle.rows.specs.Setters.{withLine, withIndex, withChoosing, withToken, withPivot}
 use Rattle.rows.specs.Lines.{moves, nextOther, goesOn, line2, line4, line5, line6, line7, lineStep, anyLine}
@@ -30,11 +31,36 @@ use Rattle.runs.specs.Run.{Course, standsAt, courseOf, those, movedIn, waitedIn
 use Rattle.theory.proofs.Counting.{by-equality}
 use Rattle.demands.specs.Passage.{passageLines, movesFrom, leftBehind, passageLength, passageAnswer, PassageAlone}
 use Rattle.demands.proofs.Computed.{numbers, plain, fresh-plain}
+use Rattle.demands.proofs.TokenViews.{difference-round, sum-first}
 
 -- a list of copies of a, with a put anew
 set-copy : {A : Type 0} (a : A) (many k : ℕ) → k < many → set (replicate many a) k a ≡ replicate many a
 set-copy a many k inside =
     ap (set (replicate many a) k) (sym (getD-replicate many k a a inside)) ∙ set-getD (replicate many a) k a
+
+-- The token after 0 where none is seen: 1, and on the bounded machine its remainder.
+in-the-middle : (n : ℕ) → 1 ≤ n → shifted n (pos 0) (pos 0) ≡ n - 1
+unfolding shifted remainder
+in-the-middle n some =
+    let sum : 0 + (n - 1) + 0 ≡ n - 1 = omega arith in
+    rw sum (mod-eq-of-lt (omega arith))
+
+first-b : (n : ℕ) → 1 ≤ n → nextB n (pos 0) allNone ≡ pos (1 % modulusOf n)
+unfolding nextB largest shiftedCell
+first-b n some =
+    let m = modulusOf n in
+    let round : n - 1 + 0 + 2 + (m - n) ≡ 1 + m = omega arith in
+    ap (λ (middle : ℕ). pos (remainder (pos middle +ℤ pos 0 -ℤ pos n +ℤ pos 2) m)) (in-the-middle n some)
+    ∙ ap (λ (z : ℤ). pos (remainder z m)) (sum-first (n - 1 + 0) n 2)
+    ∙ ap pos (difference-round (n - 1 + 0 + 2) n m (omega arith) ∙ rw round (add-mod-right 1 m))
+
+first-token : (algorithm n : ℕ) → 1 ≤ n → nextToken algorithm n (pos 0) allNone ≡ leftBehind algorithm n .x
+unfolding nextToken nextUb largest
+first-token algorithm n some = by-machine (eqb algorithm unbounded)
+  where
+    by-machine : (ub : Bool) → cond ub (nextUb (pos 0) allNone) (nextB n (pos 0) allNone) ≡ pos (cond ub 1 (1 % modulusOf n))
+    by-machine true = refl
+    by-machine false = first-b n some
 
 -- Process i alone.
 module _ (algorithm n i : ℕ) (low : 1 ≤ i) (high : i ≤ n) (most : n ≤ slots) where
@@ -93,7 +119,10 @@ module _ (algorithm n i : ℕ) (low : 1 ≤ i) (high : i ≤ n) (most : n ≤ sl
   -- lines 8 to 10
   ends : Walks (standing token freshRow) []
   unfolding plain
-  ends = ap (λ (t : Table). standsAt t noRefusal) (all-fresh token)
+  ends =
+      ap (λ (t : Table). standsAt t noRefusal) (all-fresh token)
+      ∙ ap (λ (x : ℤ). standsAt (record { algorithm = algorithm; n = n; x = x; rows = replicate slots freshRow }) noRefusal)
+      (first-token algorithm n (omega arith))
 
   leaves : Walks (standing (pos 0) (holding 8 0)) (8 ∷ 9 ∷ 10 ∷ [])
   unfolding lineStep anyLine

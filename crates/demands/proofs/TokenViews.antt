@@ -99,7 +99,7 @@ negative-remainder a m l = ⊎-elim whole (λ less. ap (λ (k : ℕ). (m - k) % 
         rw (e, mod-self m, all, nothing) (mod-self m ∙ sym (zero-mod m))
 
 -- and of any difference
-difference-round : (a b m : ℕ) → b ≤ m → remainder (pos a -ℤ pos b) m ≡ (a + (m - b)) % m
+pub difference-round : (a b m : ℕ) → b ≤ m → remainder (pos a -ℤ pos b) m ≡ (a + (m - b)) % m
 unfolding remainder
 difference-round a zero m l =
     let round : a + 0 + m ≡ a + (m - 0) = omega arith in
@@ -114,7 +114,7 @@ difference-round a (suc b) m l =
     sym (add-mod-right (a - suc b) m) ∙ rw round)
 
 -- what is added after a difference may be added before it
-sum-first : (a b c : ℕ) → pos a -ℤ pos b +ℤ pos c ≡ pos (a + c) -ℤ pos b
+pub sum-first : (a b c : ℕ) → pos a -ℤ pos b +ℤ pos c ≡ pos (a + c) -ℤ pos b
 sum-first a b c =
     let less = negℤ (pos b) in
     +ℤ-assoc (pos a) less (pos c) ∙ ap (λ (z : ℤ). pos a +ℤ z) (+ℤ-comm less (pos c)) ∙ sym (+ℤ-assoc (pos a) (pos c) less)

@@ -1,7 +1,7 @@
 pub mod Bench
 pub mod RoundTrips
-pub mod Passage
 pub mod Agreement
 pub mod SideBySide
 pub mod ForEver
 pub mod Sharp
+pub mod Passage

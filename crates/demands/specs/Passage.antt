@@ -1,16 +1,16 @@
 -- Document 01, "One step of process i": "A passage without waits takes 3n + 5 steps."
-use Prim.Native.Nat.{ℕ, _+_, _*_, _-_, _≤_}
+use Prim.Native.Nat.{ℕ, _+_, _*_, _-_, _%_, _≤_}
 use mathlib.Core.Path.{_≡_}
-use mathlib.Core.Bool.{true}
+use mathlib.Core.Bool.{true, cond}
 use mathlib.Core.List.{List, [], _∷_, _++_, map, flatten}
+use lib.Dec.{eqb}
 use lib.IntN.{pos}
 use lib.ListN.{replicate}
-use Rattle.fields.specs.Numbers.{slots}
+use Rattle.fields.specs.Numbers.{slots, unbounded, modulusOf}
 use Rattle.fields.specs.Refusals.{noRefusal}
 use Rattle.fields.specs.Rules.{algorithmOk, countOk}
-use Rattle.table.specs.Fresh.{allNone, freshRow, freshTable}
+use Rattle.table.specs.Fresh.{freshRow, freshTable}
 use Rattle.table.specs.declared.Table.{Table}
-use Rattle.tokens.specs.Tokens.{nextToken}
 use Rattle.runs.specs.Run.{Turn, courseOf, answerOf}
 use Rattle.runs.specs.declared.Ran.{Ran}
 
@@ -22,10 +22,14 @@ passageLines n = 1 ∷ replicate n 2 ++ (3 ∷ 4 ∷ 5 ∷ flatten (replicate (n
 abbrev pub movesFrom : ℕ → ℕ → Turn
 movesFrom i line = record { process = i; line = line; mark = 1 }
 
--- a fresh table, but that X is the token that was taken: the next one after 0, where no token is seen
+-- a fresh table, but that X is the token that was taken: 1, and on the bounded machine its remainder
 abbrev pub leftBehind : ℕ → ℕ → Table
-leftBehind algorithm n =
-    record { algorithm = algorithm; n = n; x = nextToken algorithm n (pos 0) allNone; rows = replicate slots freshRow }
+leftBehind algorithm n = record {
+  algorithm = algorithm;
+  n = n;
+  x = pos (cond (eqb algorithm unbounded) 1 (1 % modulusOf n));
+  rows = replicate slots freshRow;
+}
 
 -- every one of "3n + 5 steps" moves, and one is the entry
 abbrev pub passageLength : ℕ → ℕ
