@@ -6,7 +6,7 @@ use native.Mathlib.Omega.{arith}
 use lib.IntN.{ℤ, pos}
 use lib.ListN.{replicate}
 use Rattle.fields.specs.Tests.{within, every, howMany}
-use Rattle.fields.specs.Numbers.{slots, lastLine, unbounded, bounded}
+use Rattle.fields.specs.Numbers.{slots, unbounded, bounded}
 use Rattle.fields.specs.Refusals.{noRefusal}
 use Rattle.table.specs.WellFormed.{rowOf}
 use Rattle.table.specs.Fresh.{freshRow, freshTable}
@@ -60,7 +60,7 @@ are-looking = ap (λ (c : Course). c .table) (fresh-plain bounded 2 sevenEach re
 
 pub two-at-line-7 : TwoAtLine7
 unfolding howMany
-two-at-line-7 = ap (λ (t : Table). howMany (λ i. within 7 lastLine (rowOf t i .line)) slots) are-looking
+two-at-line-7 = ap (λ (t : Table). howMany (λ i. within 7 10 (rowOf t i .line)) slots) are-looking
 
 abbrev three : Table
 three = record {

@@ -4,7 +4,7 @@ use mathlib.Core.Bool.{Bool, _&&_}
 use lib.Dec.{leb, eqb}
 use lib.IntN.{ℤ, pos, negsuc}
 use Rattle.fields.specs.Tests.{within, every, howMany, eqℤ}
-use Rattle.fields.specs.Numbers.{slots, lastLine, lineOfEntry, none, modulusOf}
+use Rattle.fields.specs.Numbers.{slots, none, modulusOf}
 use Rattle.table.specs.WellFormed.{rowOf, cellOf}
 use Rattle.table.specs.declared.Row.{Row}
 use Rattle.table.specs.declared.Table.{Table}
@@ -43,7 +43,7 @@ agree m u b = isRemainder m (u .x) (b .x) && every (rowAtAgrees m u b) slots
 
 -- "lines 8 to 10"
 abbrev pub isCriticalLine : ℕ → Bool
-isCriticalLine line = within lineOfEntry lastLine line
+isCriticalLine line = within 8 10 line
 
 -- whether row i stands there
 abbrev pub isCritical : Table → ℕ → Bool
