@@ -37,8 +37,8 @@ unfoldable pub stateAfter : ℕ → Machine → State → List ℕ → State
 stateAfter others m s [] = s
 stateAfter others m s (i ∷ later) = stateAfter others m (step others m s i) later
 
--- Process 2 takes token 1 and looks at process 1, which has no token yet, but has seen that one and X = 0 when process 2 goes on to line 8.
--- Modulo 2 a token n - 1 above the pivot shifts to what one n - 1 below it does: process 1 takes 1 again, and comes to line 8 too.
+-- Two processes, so modulo 2. Process 2 takes token 1. Process 1 sees it, and X = 0, but has no token yet when process 2 passes it. A token
+-- n - 1 above the pivot shifts to what one n - 1 below it does: process 1 takes 1 again, and comes to line 8 too.
 abbrev pub bothPass : List ℕ
 bothPass = replicate 7 2 ++ replicate 4 1 ++ (2 ∷ []) ++ replicate 4 1
 
