@@ -1,17 +1,12 @@
 // The cases of the stored form: a form that is read, and a table that is written.
-ghost use Prim.Native.Nat.{_≤_};
-ghost use lib.ListN.{length};
-use crate::answers::put_not_a_case;
-use crate::lent::fill;
+use crate::lent::part;
 use crate::lent::put_lent;
-use crate::lent::same_bytes;
+use crate::lent::untouched;
 use crate::printing::put_table;
 use crate::printing::put_two;
-use crate::reading::LONGEST_BODY;
-use crate::reading::OPENING_LENGTH;
-use crate::reading::TABLE_LENGTH;
-use crate::reading::length_at;
-use crate::reading::table_in;
+use crate::reading::next_length;
+use crate::reading::next_piece;
+use crate::reading::next_table;
 use crate::round_trips::read_and_written;
 use crate::round_trips::written_and_read;
 use fields::refusal;
@@ -19,49 +14,45 @@ use reader::Restored;
 use table::Table;
 
 fn put_restored(r: Restored) {
-    put_two(b"stop # place #\n", r.stop as usize, r.place);
+    put_two(b"stop 0 place 1\n", r.stop as usize, r.place);
     put_table(r.table);
 }
 
-// An accepted form read and written again, to a buffer that is as long: how many of its bytes are written as they were.
-fn put_again(form: &[u8], lent: &mut [u8]) {
-    fill(lent);
-    read_and_written(form, lent);
-    put_two(b"again # of #\n", same_bytes(lent, form), form.len());
+// How many of some bytes are as they were, all or none.
+fn same_of(now: &[u8], before: &[u8]) -> usize {
+    if check::same(now, before) {
+        return before.len();
+    }
+    0
 }
 
-// The form is no longer than a body, so that a buffer of its length can be lent.
-pub(crate) fn put_read(form: &[u8])
-    requires { do ⌜ length (now form) ≤ (← ⟦LONGEST_BODY⟧) ⌝ }
-{
+// A form read and written again, to a buffer that is as long: how many of its bytes are written as they were.
+fn put_again(form: &[u8]) {
+    let mut buffer = untouched();
+    let lent = part(&mut buffer, form.len());
+    read_and_written(form, lent);
+    put_two(b"again 0 of 1\n", same_of(lent, form), form.len());
+}
+
+pub(crate) fn put_read(file: i32) {
+    let mut space = io::large_buffer();
+    let form = next_piece(file, &mut space);
     let r = reader::read(form);
     put_restored(r);
     if r.stop == refusal::NO_REFUSAL {
-        let mut buffer = io::large_buffer();
-        let length = form.len();
-        put_again(form, &mut buffer[..length]);
+        put_again(form);
     }
-}
-
-fn put_read_back(t: Table, lent: &mut [u8]) {
-    fill(lent);
-    put_restored(written_and_read(t, lent));
 }
 
 fn put_wrote(t: Table, lent: &mut [u8]) {
-    fill(lent);
     let w = writer::write(t, lent);
-    put_two(b"length # stop #\n", w.length, w.stop as usize);
-    put_lent(b"bytes", lent, w.length);
-    put_read_back(t, lent);
+    put_two(b"length 0 stop 1\nbytes", w.length, w.stop as usize);
+    put_lent(lent, w.length);
+    put_restored(written_and_read(t, lent));
 }
 
-pub(crate) fn put_write(body: &[u8]) {
-    if body.len() != OPENING_LENGTH {
-        put_not_a_case();
-        return;
-    }
-    let mut buffer = io::large_buffer();
-    let length = length_at(body, TABLE_LENGTH);
-    put_wrote(table_in(body), &mut buffer[..length]);
+pub(crate) fn put_write(file: i32) {
+    let t = next_table(file);
+    let mut buffer = untouched();
+    put_wrote(t, part(&mut buffer, next_length(file)));
 }

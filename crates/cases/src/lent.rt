@@ -1,78 +1,55 @@
 // A lent buffer: what it holds before a call, and what is printed of it after.
-use crate::printing::end_line;
-use crate::printing::put;
+ghost use Prim.Native.Nat.{_≤_};
+ghost use mathlib.Core.Path.{_≡_};
+ghost use lib.ListN.{length};
 use crate::printing::put_number;
 use crate::printing::put_two;
 
-// What byte k of the buffer holds before a call. It is no process number.
-fn filler(k: usize) -> u8 {
-    (100 + k % 100) as u8
+// What each byte of a lent buffer holds before a call. It is no process number.
+const UNTOUCHED: u8 = 200;
+
+// The bytes of which a part is lent. That there are so many is said for the lending, as in `io::large_buffer`.
+pub(crate) fn untouched() -> [u8; 65536]
+    ensures { λ r. ⌜ 65536 ≡ length r ⌝ }
+{
+    [UNTOUCHED; 65536]
 }
 
-pub(crate) fn fill(lent: &mut [u8]) {
-    for k in 0..lent.len() {
-        lent[k] = filler(k);
+// The first bytes of a space, or all where it has fewer.
+pub(crate) fn part(space: &mut [u8], count: usize) -> &mut [u8] {
+    if count <= space.len() {
+        return &mut space[..count];
     }
+    space
 }
 
-// The first bytes of some, or all where there are fewer.
-pub(crate) fn first(bytes: &[u8], count: usize) -> &[u8] {
-    if count <= bytes.len() {
-        return &bytes[..count];
+// Byte k of a lent buffer: it is printed where the call says that it has written it. Else the answer is 1 where it is as before.
+fn put_or_keep(byte: u8, k: usize, written: usize) -> usize
+    ensures { λ r. ⌜ r ≤ 1 ⌝ }
+{
+    if k < written {
+        put_number(byte as i32);
+        return 0;
     }
-    bytes
-}
-
-fn put_bytes(word: &[u8], bytes: &[u8]) {
-    put(word);
-    for k in 0..bytes.len() {
-        put_number(bytes[k] as i32);
-    }
-    end_line();
-}
-
-fn is_at(bytes: &[u8], k: usize, byte: u8) -> bool {
-    if k < bytes.len() {
-        return bytes[k] == byte;
-    }
-    false
-}
-
-// At how many places two rows of bytes are the same.
-pub(crate) fn same_bytes(some: &[u8], others: &[u8]) -> usize {
-    let mut same: usize = 0;
-    for k in 0..some.len() {
-        if is_at(others, k, some[k]) {
-            same += 1;
-        }
-    }
-    same
-}
-
-// How many bytes of the buffer from this place on are as before the call, and how many there are.
-fn kept_from(lent: &[u8], place: usize) -> usize {
-    let mut kept: usize = 0;
-    for k in place..lent.len() {
-        if is_at(lent, k, filler(k)) {
-            kept += 1;
-        }
-    }
-    kept
-}
-
-fn left_from(lent: &[u8], place: usize) -> usize {
-    if place <= lent.len() {
-        return lent.len() - place;
+    if byte == UNTOUCHED {
+        return 1;
     }
     0
 }
 
-// The buffer after a call: what the call has written to its front, after a word, and what stands after that.
-pub(crate) fn put_lent(word: &[u8], lent: &[u8], written: usize) {
-    put_bytes(word, first(lent, written));
-    put_two(
-        b"kept # of #\n",
-        kept_from(lent, written),
-        left_from(lent, written),
-    );
+// How many bytes are left after the written ones.
+fn left_of(length: usize, written: usize) -> usize {
+    if written <= length {
+        return length - written;
+    }
+    0
+}
+
+// The buffer after a call: what the call has written to its front, and how many of the bytes after that are as before.
+pub(crate) fn put_lent(lent: &[u8], written: usize) {
+    let mut kept: usize = 0;
+    for k in 0..lent.len() {
+        kept += put_or_keep(lent[k], k, written);
+    }
+    put_two(b"\nkept 0 of 1\n", kept, left_of(lent.len(), written));
 }

@@ -1,5 +1,5 @@
-// Runs the cases that its arguments name, a file each, and prints under each name what the library answers.
-// What it must print comes from a second machine, tests/bakery.py; tests/write_cases.py has the formats.
+// Runs the cases of the data files that its arguments name, and prints under each case's name what the library answers.
+// What it must print comes from a second machine, tests/bakery.py; tests/write_cases.py has the format of the files.
 mod answers;
 mod forms;
 mod lent;
@@ -7,55 +7,45 @@ mod printing;
 mod reading;
 mod round_trips;
 
-use answers::put_not_a_case;
-use printing::end_line;
 use printing::put;
-use reading::LONGEST_BODY;
+use reading::next_byte;
+use reading::next_length;
+use reading::next_piece;
+use reading::put_not_a_case;
 
 // The answer to a case by its kind.
-fn put_answer(kind: u8, body: &[u8]) {
-    if body.len() > LONGEST_BODY {
-        put_not_a_case();
-        return;
-    }
+fn put_answer(file: i32) {
+    let kind = next_byte(file);
     match kind {
-        b'F' => answers::put_fresh(body),
-        b'S' => answers::put_step(body),
-        b'R' => answers::put_run(body),
-        b'L' => answers::put_listing(body),
-        b'D' => forms::put_read(body),
-        b'W' => forms::put_write(body),
+        b'F' => answers::put_fresh(file),
+        b'S' => answers::put_step(file),
+        b'R' => answers::put_run(file),
+        b'D' => forms::put_read(file),
+        b'W' => forms::put_write(file),
         _ => put_not_a_case(),
     }
 }
 
-// A case file: its kind, the first byte, and its body. The buffer has room for more than the longest body, so that a longer one shows.
-fn put_file(file: i32) {
-    let mut kind = [0u8; 1];
-    io::read_full(file, &mut kind);
-    let mut body = io::large_buffer();
-    let length = io::read_full(file, &mut body);
-    libc::close(file);
-    put_answer(kind[0], &body[..length]);
+// The line above a case's answer.
+fn put_heading(file: i32) {
+    let mut space = io::buffer();
+    let heading = next_piece(file, &mut space);
+    put(heading);
 }
 
-fn put_case(name: &[u8]) {
-    put(b"== ");
-    put(name);
-    end_line();
-    let file = os::open_read(name);
-    if file < 0 {
-        put(b"no such case\n");
-        return;
+// The cases of a data file, which opens with their number.
+fn put_cases(file: i32) {
+    for _ in 0..next_length(file) {
+        put_heading(file);
+        put_answer(file);
     }
-    put_file(file);
 }
 
-// The case that argument i names. A name too long for the buffer counts as empty, which no file is called.
+// The data file that argument i names. Of one that is not there nothing can be read.
 fn put_argument(i: usize) {
     let mut name = io::buffer();
     let length = os::arg(i, &mut name);
-    put_case(&name[..length]);
+    put_cases(os::open_read(&name[..length]));
 }
 
 fn main() {

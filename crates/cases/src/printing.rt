@@ -1,44 +1,50 @@
 // Words, numbers and tables on standard output.
 ghost use Prim.Native.Nat.{_<_};
-ghost use Rattle.fields.specs.Numbers.{slots};
 use fields::NONE;
 use fields::SLOTS;
 use libc::STDOUT_FILENO;
 use table::Row;
 use table::Table;
 
+// How many numbers a row has before its cells, and in all.
+const FIELDS: usize = 5;
+
+const NUMBERS: usize = FIELDS + SLOTS;
+
 pub(crate) fn put(text: &[u8]) {
     io::write_all(STDOUT_FILENO, text);
 }
 
-pub(crate) fn end_line() {
-    put(b"\n");
+fn put_byte(byte: u8) {
+    put(&[byte]);
 }
 
-// The count at place k of some, where they have one.
-fn put_count_at(counts: &[usize], k: usize) {
-    if k < counts.len() {
-        io::print_decimal(STDOUT_FILENO, counts[k] as u64);
+fn put_count(count: usize) {
+    io::print_decimal(STDOUT_FILENO, count as u64);
+}
+
+// A letter; the digits 0 to 5 stand for the counts.
+fn put_letter(letter: u8, a: usize, b: usize, c: usize, d: usize, e: usize, f: usize) {
+    match letter {
+        b'0' => put_count(a),
+        b'1' => put_count(b),
+        b'2' => put_count(c),
+        b'3' => put_count(d),
+        b'4' => put_count(e),
+        b'5' => put_count(f),
+        _ => put_byte(letter),
     }
 }
 
-// Some words, with a count in the place of each `#`.
-pub(crate) fn put_words(words: &[u8], counts: &[usize]) {
-    let mut place: usize = 0;
-    let mut next: usize = 0;
+// Some words, with counts in the places of the digits 0 to 5.
+pub(crate) fn put_six(words: &[u8], a: usize, b: usize, c: usize, d: usize, e: usize, f: usize) {
     for k in 0..words.len() {
-        if words[k] == b'#' {
-            put(&words[place..k]);
-            put_count_at(counts, next);
-            place = k + 1;
-            next += 1;
-        }
+        put_letter(words[k], a, b, c, d, e, f);
     }
-    put(&words[place..]);
 }
 
-pub(crate) fn put_two(words: &[u8], first: usize, second: usize) {
-    put_words(words, &[first, second]);
+pub(crate) fn put_two(words: &[u8], a: usize, b: usize) {
+    put_six(words, a, b, 0, 0, 0, 0);
 }
 
 // A number without its sign. `!` of one below zero is how far it is from -1, which fits even where the number is the smallest.
@@ -52,79 +58,71 @@ fn magnitude(number: i32) -> u64 {
 
 // A number after a space.
 pub(crate) fn put_number(number: i32) {
-    put(b" ");
+    put_byte(b' ');
     if number < 0 {
-        put(b"-");
+        put_byte(b'-');
     }
     io::print_decimal(STDOUT_FILENO, magnitude(number));
 }
 
-fn put_numbers(numbers: &[i32]) {
-    for k in 0..numbers.len() {
-        put_number(numbers[k]);
+// The number at place k of a row: its five fields, then its cells.
+fn number_of(r: Row, k: usize) -> i32
+    requires { do ⌜ k < (← ⟦NUMBERS⟧) ⌝ }
+{
+    match k {
+        0 => r.line as i32,
+        1 => r.index as i32,
+        2 => r.choosing as i32,
+        3 => r.token,
+        4 => r.pivot,
+        _ => r.cells[k - FIELDS],
     }
 }
 
-fn are_none(cells: [i32; SLOTS]) -> bool {
-    for k in 0..SLOTS {
-        if cells[k] != NONE {
+// Whether the number at place k of a row is as in a fresh table.
+fn is_usual(k: usize, number: i32) -> bool {
+    match k {
+        0 => number == 1,
+        1 | 2 => number == 0,
+        _ => number == NONE,
+    }
+}
+
+fn is_fresh(r: Row) -> bool {
+    for k in 0..NUMBERS {
+        if !is_usual(k, number_of(r, k)) {
             return false;
         }
     }
     true
 }
 
-// Whether a row is as in a fresh table.
-fn is_fresh(r: Row) -> bool {
-    let cells = r.cells;
-    (r.line == 1)
-        & (r.index == 0)
-        & (r.choosing == 0)
-        & (r.token == NONE)
-        & (r.pivot == NONE)
-        & are_none(cells)
-}
-
-fn put_fields(r: Row) {
-    put_numbers(
-        &[
-            r.line as i32,
-            r.index as i32,
-            r.choosing as i32,
-            r.token,
-            r.pivot,
-        ],
-    );
-}
-
-fn put_row(process: usize, r: Row) {
-    put_words(b"row #:", &[process]);
-    put_fields(r);
-    put(b" |");
-    let cells = r.cells;
-    put_numbers(&cells);
-    end_line();
-}
-
-// The row at place k, that of process k + 1, unless it is fresh.
-fn put_row_at(t: Table, k: usize)
-    requires { ⌜ k < slots ⌝ }
-{
-    let r = t.rows[k];
-    if !is_fresh(r) {
-        put_row(k + 1, r);
+// A number of a row, with a bar between the fields and the cells.
+fn put_number_at(k: usize, number: i32) {
+    if k == FIELDS {
+        put_byte(b' ');
+        put_byte(b'|');
     }
+    put_number(number);
 }
 
-fn put_head(t: Table) {
-    put_two(b"table # # x", t.algorithm as usize, t.n as usize);
-    put_number(t.x);
-    end_line();
+// A line for the row of a process, unless it is fresh.
+fn put_row(process: usize, r: Row) {
+    if is_fresh(r) {
+        return;
+    }
+    put_two(b"\nrow 0:", process, 0);
+    for k in 0..NUMBERS {
+        put_number_at(k, number_of(r, k));
+    }
 }
 
 pub(crate) fn put_table(t: Table) {
-    put_head(t);
+    put_two(b"table 0 1 x", t.algorithm as usize, t.n as usize);
+    put_number(t.x);
     for k in 0..SLOTS {
-        put_row_at(t, k);
+        let r = t.rows[k];
+        put_row(k + 1, r);
     }
+    put_byte(b'\n');
 }

@@ -1,56 +1,44 @@
-// The numbers and the table in a case file: plain fields and not the stored form, so that a table that is not well formed can be a case.
-ghost use Prim.Native.Nat.{_+_, _<_, _≤_};
-ghost use lib.ListN.{length};
+// What a data file holds, taken from it piece by piece. A table is there as plain fields and not in the stored form, so that one that is not
+// well formed can be a case.
+ghost use Prim.Native.Nat.{_<_};
+use crate::lent::part;
+use crate::printing::put;
 use fields::NONE;
 use fields::SLOTS;
 use table::Row;
 use table::Table;
 
-// How many bytes a case file may have after its kind.
-pub(crate) const LONGEST_BODY: usize = 65535;
+pub(crate) fn put_not_a_case() {
+    put(b"not a case\n");
+}
 
-// How many it has for a number, and for each part of a table. They are not the lengths that `writer` has under these names, of records.
-const NUMBER_LENGTH: usize = 4;
+// Fills a piece with the next bytes of the file. Where the file ends too soon the output says so.
+fn take(file: i32, piece: &mut [u8]) {
+    let count = io::read_full(file, piece);
+    if count < piece.len() {
+        put_not_a_case();
+    }
+}
 
-const CELLS_LENGTH: usize = SLOTS * NUMBER_LENGTH;
-
-const ROW_HEAD_LENGTH: usize = 3 + 2 * NUMBER_LENGTH;
-
-const ROW_LENGTH: usize = ROW_HEAD_LENGTH + CELLS_LENGTH;
-
-const ROWS_LENGTH: usize = SLOTS * ROW_LENGTH;
-
-const HEAD_LENGTH: usize = 2 + NUMBER_LENGTH;
-
-pub(crate) const TABLE_LENGTH: usize = HEAD_LENGTH + ROWS_LENGTH;
-
-// A run and a write open with a table, and with the two bytes of the lent buffer's length.
-pub(crate) const OPENING_LENGTH: usize = TABLE_LENGTH + 2;
-
-fn digit(byte: u8) -> u32
-    ensures { λ d. ⌜ d < 256 ⌝ }
-{
-    byte as u32
+pub(crate) fn next_byte(file: i32) -> u8 {
+    let mut piece = [0u8; 1];
+    take(file, &mut piece);
+    piece[0]
 }
 
 // A number of two bytes, the lower one first.
-fn pair_at(bytes: &[u8], place: usize) -> u32
-    requires { ⌜ place + 2 ≤ length (now bytes) ⌝ }
-    ensures { λ p. ⌜ p < 65536 ⌝ }
-{
-    let low = digit(bytes[place]);
-    low + 256 * digit(bytes[place + 1])
-}
-
-pub(crate) fn length_at(bytes: &[u8], place: usize) -> usize
-    requires { ⌜ place + 2 ≤ length (now bytes) ⌝ }
+pub(crate) fn next_length(file: i32) -> usize
     ensures { λ l. ⌜ l < 65536 ⌝ }
 {
-    pair_at(bytes, place) as usize
+    let low = next_byte(file) as usize;
+    let high = next_byte(file) as usize;
+    low + 256 * high
 }
 
-// Two's complement: the upper half of the bits stands for the numbers below zero.
-fn signed(bits: u32) -> i32 {
+// A number of four bytes, the lowest one first. Two's complement: the upper half of the bits stands for the numbers below zero.
+fn next_number(file: i32) -> i32 {
+    let low = next_length(file);
+    let bits = low + 65536 * next_length(file);
     if bits < 2147483648 {
         bits as i32
     } else {
@@ -58,61 +46,51 @@ fn signed(bits: u32) -> i32 {
     }
 }
 
-// A number of four bytes, the lowest one first.
-fn number_at(bytes: &[u8], place: usize) -> i32
-    requires { do ⌜ place + (← ⟦NUMBER_LENGTH⟧) ≤ length (now bytes) ⌝ }
-{
-    let low = pair_at(bytes, place);
-    signed(low + 65536 * pair_at(bytes, place + 2))
+// Some bytes that have their length before them.
+pub(crate) fn next_piece(file: i32, space: &mut [u8]) -> &mut [u8] {
+    let piece = part(space, next_length(file));
+    take(file, piece);
+    piece
 }
 
-fn cells_at(bytes: &[u8], place: usize) -> [i32; SLOTS]
-    requires { do ⌜ place + (← ⟦CELLS_LENGTH⟧) ≤ length (now bytes) ⌝ }
-{
+fn next_cells(file: i32) -> [i32; SLOTS] {
     let mut cells = [NONE; SLOTS];
     for k in 0..SLOTS {
-        let cell = number_at(bytes, place + k * NUMBER_LENGTH);
+        let cell = next_number(file);
         cells[k] = cell;
     }
     cells
 }
 
-fn row_at(bytes: &[u8], place: usize) -> Row
-    requires { do ⌜ place + (← ⟦ROW_LENGTH⟧) ≤ length (now bytes) ⌝ }
-{
-    let token = number_at(bytes, place + 3);
-    let pivot = number_at(bytes, place + 7);
-    let cells = cells_at(bytes, place + ROW_HEAD_LENGTH);
+fn next_row(file: i32) -> Row {
+    let line = next_byte(file);
+    let index = next_byte(file);
+    let choosing = next_byte(file);
+    let token = next_number(file);
+    let pivot = next_number(file);
+    let cells = next_cells(file);
     Row {
-        line: bytes[place],
-        index: bytes[place + 1],
-        choosing: bytes[place + 2],
+        line,
+        index,
+        choosing,
         token,
         pivot,
         cells,
     }
 }
 
-fn rows_at(bytes: &[u8], place: usize) -> [Row; SLOTS]
-    requires { do ⌜ place + (← ⟦ROWS_LENGTH⟧) ≤ length (now bytes) ⌝ }
-{
-    let mut rows = [row_at(bytes, place); SLOTS];
+pub(crate) fn next_table(file: i32) -> Table {
+    let algorithm = next_byte(file);
+    let n = next_byte(file);
+    let x = next_number(file);
+    let mut rows = [next_row(file); SLOTS];
     for k in 1..SLOTS {
-        let row = row_at(bytes, place + k * ROW_LENGTH);
+        let row = next_row(file);
         rows[k] = row;
     }
-    rows
-}
-
-// The table at the front of some bytes.
-pub(crate) fn table_in(bytes: &[u8]) -> Table
-    requires { do ⌜ (← ⟦TABLE_LENGTH⟧) ≤ length (now bytes) ⌝ }
-{
-    let x = number_at(bytes, 2);
-    let rows = rows_at(bytes, HEAD_LENGTH);
     Table {
-        algorithm: bytes[0],
-        n: bytes[1],
+        algorithm,
+        n,
         x,
         rows,
     }
