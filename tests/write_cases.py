@@ -13,12 +13,11 @@ number of cases (2 bytes, little-endian as all numbers are). Each case is its he
     W  a write: a table, the length of the lent buffer (2)
 A heading, a schedule and a form have their length (2) before them. A table is algorithm, n, X and 16 rows of line,
 index, choosing, token, pivot and 16 read cells; X, token, pivot and read cells have 4 bytes (two's complement), the
-others one. Before a run and before a write, each byte of the lent buffer is 200. After a read that is accepted the
-table is written again, to a buffer of the form's length; after a write the table is written once more and read back.
-The functions that end in `lines` say what the program prints below the heading.
+others one. Before a run and before a write, byte k of the lent buffer holds 100 + k % 100. After a read that is accepted
+the table is written again, to a buffer of the form's length; after a write the table is written once more and read
+back. The functions that end in `lines` say what the program prints below the heading.
 """
 
-import importlib.util
 import os
 import sys
 
@@ -26,6 +25,7 @@ sys.dont_write_bytecode = True
 
 import bakery
 import case_text
+import compare_totals
 from bakery import ROWS, Row, four_bytes
 
 ROOT = case_text.ROOT
@@ -127,7 +127,7 @@ def read_answer_lines(answer):
 
 def lent_buffer(length):
     """A lent buffer before it is written to."""
-    return bytes([200]) * length
+    return bytes(100 + k % 100 for k in range(length))
 
 
 def equal_places(some, others):
@@ -187,9 +187,7 @@ def wanted_files():
     files["crates/cases/stdout"] = b"".join(printed(subject, cases[subject]) for subject in SUBJECTS)
     files["crates/lister/stdin"] = listed[LISTER_STDIN]
     files["crates/lister/stdout"] = bakery.lister(listed[LISTER_STDIN])
-    if importlib.util.find_spec("compare_totals"):
-        import compare_totals
-        files["crates/compare/stdout"] = compare_totals.printed()
+    files["crates/compare/stdout"] = compare_totals.printed()
     return files, [(subject, len(cases[subject])) for subject in SUBJECTS] + [("lister", len(listed))]
 
 

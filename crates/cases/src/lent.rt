@@ -5,14 +5,21 @@ ghost use lib.ListN.{length};
 use crate::printing::put_number;
 use crate::printing::put_two;
 
-// What each byte of a lent buffer holds before a call. It is no process number.
-const UNTOUCHED: u8 = 200;
+// What byte k of a lent buffer holds before a call. It is no process number, and not what the bytes beside it hold, so that it shows if they
+// are moved.
+fn filler(k: usize) -> u8 {
+    (100 + k % 100) as u8
+}
 
 // The bytes of which a part is lent. That there are so many is said for the lending, as in `io::large_buffer`.
 pub(crate) fn untouched() -> [u8; 65536]
     ensures { λ r. ⌜ 65536 ≡ length r ⌝ }
 {
-    [UNTOUCHED; 65536]
+    let mut bytes = [0; 65536];
+    for k in 0..65536 {
+        bytes[k] = filler(k);
+    }
+    bytes
 }
 
 // The first bytes of a space, or all where it has fewer.
@@ -31,7 +38,7 @@ fn put_or_keep(byte: u8, k: usize, written: usize) -> usize
         put_number(byte as i32);
         return 0;
     }
-    if byte == UNTOUCHED {
+    if byte == filler(k) {
         return 1;
     }
     0
