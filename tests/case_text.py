@@ -148,6 +148,7 @@ def schedule_of(words, name, algorithm, n):
 def made(words, name, algorithm, n):
     """What a maker gives: `uniform 2876`, `doorway`; it draws from the case's name or from a word, `from another`."""
     maker = words.next()
+    need("(" not in maker, "a group is due, such as (1 2)*6, not '%s'" % maker)
     need(maker in ("uniform", "robin", "bursty", "doorway"), "no maker of schedules is called '%s'" % maker)
     need(algorithm in ALGORITHMS.values() and (2 if maker == "doorway" else 1) <= n <= ROWS, "no such machine")
     numbers = [] if maker == "doorway" else [words.number(0, LONGEST)]

@@ -18,15 +18,20 @@ fn put(word: &[u8], number: usize) {
     io::write_all(STDOUT_FILENO, b"\n");
 }
 
-// Runs a schedule and prints the process of each entry. It answers what `run` answers, and promises so; proofs/run_and_put/Proof.antt has
-// the proof, which a loop always needs.
+// Runs a schedule, prints the process of each entry, and counts those of process 2. It answers what `run` answers, and promises so;
+// proofs/run_and_put/Proof.antt has the proof, which a loop always needs.
 fn run_and_put(t: Table, schedule: &[u8], entries: &mut [u8]) -> Ran
     ensures { λ r. ⌜ r ≡ runOf t (now (schedule .entry)) (now (entries .entry)) ⌝ }
 {
     let r = runs::run(t, schedule, entries);
+    let mut seconds: usize = 0;
     for k in 0..r.entries {
         put(b"entry ", number(entries[k]));
+        if entries[k] == 2 {
+            seconds += 1;
+        }
     }
+    put(b"of process 2 ", seconds);
     r
 }
 

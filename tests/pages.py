@@ -1,0 +1,71 @@
+"""Checks that README.md and the pages of docs/ show what is there, and names what is not.
+
+    python3 tests/pages.py
+
+README's program is that of crates/example, letter by letter; the sample in docs/WALK.md has its bytes and its listing;
+every file that a page names is there, and so is every must-fail edit.
+"""
+
+import glob
+import os
+import re
+import sys
+
+sys.dont_write_bytecode = True
+
+import bakery
+
+ROOT = os.path.dirname(os.path.dirname(os.path.abspath(__file__)))
+PAGES = ["README.md"] + sorted(os.path.relpath(path, ROOT) for path in glob.glob(os.path.join(ROOT, "docs/**/*.md"),
+                                                                                recursive=True))
+NAMED_FILE = re.compile(r"`((?:crates|docs|tests|samples)/[\w./-]*)")
+
+
+def contents(path):
+    with open(os.path.join(ROOT, path), "rb") as file:
+        return file.read()
+
+
+def indented(text):
+    return "".join("    " + line if line.strip() else line for line in text.splitlines(keepends=True))
+
+
+def decimal_dump(data):
+    """What `od -An -tu1` prints."""
+    rows = [data[place:place + 16] for place in range(0, len(data), 16)]
+    return "".join("".join(" %3d" % byte for byte in row) + "\n" for row in rows)
+
+
+def edits():
+    """The must-fail edits: crate/name."""
+    paths = glob.glob(os.path.join(ROOT, "crates/*/must-fail/*.edit"))
+    return {"%s/%s" % (path.split(os.sep)[-3], os.path.basename(path)[:-len(".edit")]) for path in paths}
+
+
+def faults():
+    pages = {path: contents(path).decode("utf-8") for path in PAGES}
+    if indented(contents("crates/example/src/main.rt").decode("utf-8")) not in pages["README.md"]:
+        yield "README.md: the program is not that of crates/example/src/main.rt"
+    sample = contents("samples/two-controllers")
+    for what, text in (("bytes", decimal_dump(sample)), ("listing", bakery.lister(sample).decode("ascii"))):
+        if indented(text) not in pages["docs/WALK.md"]:
+            yield "docs/WALK.md: these are not the %s of the sample" % what
+    crates = "|".join(sorted(os.listdir(os.path.join(ROOT, "crates"))))
+    for path, page in pages.items():
+        for name in sorted(set(NAMED_FILE.findall(page))):
+            if "NAME" not in name and not os.path.exists(os.path.join(ROOT, name)):
+                yield "%s: there is no %s" % (path, name)
+        for name in sorted(set(re.findall(r"`((?:%s)/[a-z0-9_]+)`" % crates, page)) - edits()):
+            yield "%s: there is no edit %s" % (path, name)
+
+
+def main():
+    found = list(faults())
+    for fault in found:
+        print(fault)
+    print("pages: %d, faults: %d" % (len(PAGES), len(found)))
+    return 1 if found else 0
+
+
+if __name__ == "__main__":
+    sys.exit(main())
