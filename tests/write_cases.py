@@ -172,7 +172,28 @@ def data_file(subject, cases):
 
 def printed(subject, cases):
     lines_of = SUBJECTS[subject][2]
-    return b"".join(heading(case) + "".join(line + "\n" for line in lines_of(case)).encode("ascii") for case in cases)
+    return b"".join(heading(case) + text_of(lines_of(case)) for case in cases)
+
+
+def text_of(lines):
+    return "".join(line + "\n" for line in lines).encode("ascii")
+
+
+# What the program `example` prints.
+
+def example_lines():
+    """Two runs of two processes on the bounded machine, the second from the table that is stored and read back."""
+    table = bakery.fresh(bakery.BOUNDED, 2)[0]
+    first = bakery.run(table, bytes([1, 2] * 6 + [2, 2, 1, 1, 1]), bytes(17))
+    stored = bakery.write(first.table, bytes(165))
+    second = bakery.run(bakery.read(stored.buffer).table, bytes([1, 1, 2, 2]), first.buffer)
+    return (entered_lines(first) + ["waited %d" % first.waited, "stop %d" % first.stop, "stored %d" % stored.length]
+            + entered_lines(second) + ["waiting %d" % second.waiting])
+
+
+def entered_lines(answer):
+    entered = answer.buffer[:answer.entries]
+    return ["entry %d" % process for process in entered] + ["of process 2 %d" % entered.count(2)]
 
 
 # The files.
@@ -183,11 +204,12 @@ def wanted_files():
     listed = dict(case_text.lister_cases())
     case_text.need(LISTER_STDIN in listed, "tests/cases/lister.txt has no case %s" % LISTER_STDIN)
     files = {DATA + subject: data_file(subject, cases[subject]) for subject in SUBJECTS}
-    files["crates/cases/args"] = "".join(subject + "\n" for subject in SUBJECTS).encode("ascii")
+    files["crates/cases/args"] = text_of(SUBJECTS)
     files["crates/cases/stdout"] = b"".join(printed(subject, cases[subject]) for subject in SUBJECTS)
     files["crates/lister/stdin"] = listed[LISTER_STDIN]
     files["crates/lister/stdout"] = bakery.lister(listed[LISTER_STDIN])
     files["crates/compare/stdout"] = compare_totals.printed()
+    files["crates/example/stdout"] = text_of(example_lines())
     return files, [(subject, len(cases[subject])) for subject in SUBJECTS] + [("lister", len(listed))]
 
 
