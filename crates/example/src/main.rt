@@ -6,7 +6,7 @@ use libc::STDOUT_FILENO;
 use runs::Ran;
 use table::Table;
 
-// A byte as a number to print.
+// A byte as a number to print. A cast that stands by itself needs no proof; in a loop it would.
 fn number(byte: u8) -> usize {
     byte as usize
 }
@@ -24,14 +24,14 @@ fn run_and_put(t: Table, schedule: &[u8], entries: &mut [u8]) -> Ran
     ensures { λ r. ⌜ r ≡ runOf t (now (schedule .entry)) (now (entries .entry)) ⌝ }
 {
     let r = runs::run(t, schedule, entries);
-    let mut seconds: usize = 0;
+    let mut count: usize = 0;
     for k in 0..r.entries {
         put(b"entry ", number(entries[k]));
         if entries[k] == 2 {
-            seconds += 1;
+            count += 1;
         }
     }
-    put(b"of process 2 ", seconds);
+    put(b"of process 2 ", count);
     r
 }
 

@@ -10,10 +10,10 @@ use Rattle.example.proofs.run_and_put.Statement.{statement}
 use Rattle.example.proofs.run_and_put.Tie as tie
 
 abbrev Inv-loop : tie.InvT-loop
-Inv-loop schedule entries r seconds₀ k₀ t7 t8 k-end seconds k = (seconds ≤ k) × (k ≤ k-end) × (k-end ≤ length entries)
+Inv-loop schedule entries r count₀ k₀ t7 t8 k-end count k = (count ≤ k) × (k ≤ k-end) × (k-end ≤ length entries)
 
 abbrev μ-loop : tie.MeasureT-loop
-μ-loop schedule entries r seconds₀ k₀ t7 t8 k-end seconds k = k-end - k
+μ-loop schedule entries r count₀ k₀ t7 t8 k-end count k = k-end - k
 
 run-requires : tie.Need-run-requires Inv-loop μ-loop
 run-requires c κs = search needs
@@ -40,8 +40,8 @@ put-requires c κs = search needs
 slice-read-if1 : tie.Need-slice-read-if1 Inv-loop μ-loop
 slice-read-if1 c = search needs
 
-add-seconds : tie.Need-add-seconds Inv-loop μ-loop
-add-seconds c = search needs
+add-count : tie.Need-add-count Inv-loop μ-loop
+add-count c = search needs
 
 add-k : tie.Need-add-k Inv-loop μ-loop
 add-k c = search needs
@@ -77,7 +77,7 @@ run-and-put-spec =
     number-requires
     put-requires
     slice-read-if1
-    add-seconds
+    add-count
     add-k
     loop-less
     loop-again
