@@ -12,6 +12,7 @@ import schedules
 from bakery import BOUNDED, ROWS, UNBOUNDED, Table, form_length, stored_form
 
 ROOT = os.path.dirname(os.path.dirname(os.path.abspath(__file__)))
+FOLDER = "tests/cases"
 ALGORITHMS = {"unbounded": UNBOUNDED, "bounded": BOUNDED}
 SMALLEST, LARGEST = -2 ** 31, 2 ** 31 - 1
 LONGEST = 65535  # of a lent buffer, and of a form: two bytes say the length
@@ -132,6 +133,7 @@ def schedule_of(words, name, algorithm, n):
     schedule = b""
     if words.take("no bytes"):
         return schedule
+    need(words.left, "a schedule is due, or `no bytes`")
     while words.left and words.left[0] != "buffer":
         if NUMBERS.fullmatch(words.left[0]):
             schedule += words.bytes()
@@ -164,7 +166,9 @@ def edited(form, words):
         if words.take("cut"):
             form = form[:words.number(0, len(form))]
         elif words.take("add"):
-            form += words.bytes()
+            more = words.bytes()
+            need(more, "after `add` bytes are due")
+            form += more
         elif words.take("take"):
             form = pieces(form, words)
         else:
@@ -232,7 +236,7 @@ def lister_case(name, words, table):
     if words.take("|"):
         need(len(head) == 2, "algorithm and n are due before `|`")
         return Lister(name, head + schedule_of(words, name, *head))
-    need(len(head) <= 2, "`|` is due after algorithm and n")
+    need(1 <= len(head) <= 2, "algorithm and n are due, or `no bytes`; `|` after them if there is a schedule")
     return Lister(name, head)
 
 
@@ -254,19 +258,20 @@ def write_case(name, words, table):
 
 CASE_OF = {"fresh": fresh_case, "step": step_case, "run": run_case, "lister": lister_case, "read": read_case,
            "write": write_case}
-WITH_A_TABLE = ("step", "run", "write")
+WITH_A_TABLE = ("step", "run", "read", "write")  # a read may do without
 
 
 def lines_of(text):
     """The lines that say something, each with its number and with the indented lines that go on with it."""
-    lines = []
+    lines, goes_on = [], False
     for number, line in enumerate(text.splitlines(), 1):
         if line.startswith("#") or not line.strip():
-            continue
-        if line[0] == " " and lines and not ROW.match(line):
+            goes_on = False
+        elif line[0] == " " and goes_on and not ROW.match(line):
             lines[-1] = lines[-1][0], lines[-1][1] + line
         else:
             lines.append((number, line))
+            goes_on = True
     return lines
 
 
@@ -276,7 +281,7 @@ class Reader:
     def __init__(self, subject):
         self.subject = subject
         self.table = None
-        self.rows = None  # the rows of the table that may still be given
+        self.rows = None  # the rows of the table that may still be given; none once a case has used it
         self.names = set()
         self.cases = []
 
@@ -284,6 +289,8 @@ class Reader:
         """Takes a line: a table, a row of it, or a case."""
         row, case = ROW.fullmatch(text), CASE.fullmatch(text)
         if text.startswith("table "):
+            need(self.subject in WITH_A_TABLE, "no table is due here")
+            self.used()
             words = Words(text[6:])
             self.table, self.rows = table_of(words), set(range(1, ROWS + 1))
         elif row:
@@ -295,23 +302,29 @@ class Reader:
         else:
             need(case, "this is no table, no row and no case")
             need(case[1] not in self.names, "another case has this name")
-            need(self.table or self.subject not in WITH_A_TABLE, "there is no table above")
+            need(self.table or self.subject not in WITH_A_TABLE or self.subject == "read", "there is no table above")
             words = Words(case[2])
             self.rows = None
             self.names.add(case[1])
             self.cases.append(CASE_OF[self.subject](case[1], words, self.table))
         need(not words.left, "'%s' is not understood" % " ".join(words.left))
 
+    def used(self):
+        need(self.rows is None, "there is no case under the table above")
+
 
 def cases_of(subject):
     """The cases of a subject, in the order of its file."""
-    path = "tests/cases/%s.txt" % subject
+    path = "%s/%s.txt" % (FOLDER, subject)
     with open(os.path.join(ROOT, path), encoding="utf-8") as file:
         lines = lines_of(file.read())
+    need(lines, "%s: there is no case" % path)
     reader = Reader(subject)
     for number, text in lines:
         try:
             reader.line(text)
+            if number == lines[-1][0]:
+                reader.used()
         except CaseError as error:
             raise CaseError("%s:%d: %s" % (path, number, error)) from None
     return reader.cases

@@ -1,10 +1,12 @@
 """What the program `compare` must print, by the machine in bakery.py: the same schedules, and the totals over their bytes.
 
-The words in quotation marks are document 01's and the order's.
+A byte that is no process number is taken to be refused without asking the machine, and of a step only the row that it
+changed is looked at. The words in quotation marks are document 01's and the order's.
 """
 
 import bakery
 from bakery import BOUNDED, ROWS, UNBOUNDED
+from case_text import need
 
 PASSAGES = 100  # how many passages without waits a schedule has bytes for
 FACTOR, PRIME = 48271, 2 ** 31 - 1  # of a Lehmer generator
@@ -96,5 +98,7 @@ def printed():
     """The whole output of `compare`."""
     words = ": bytes %d entries %d waits %d refused %d disagreements %d\n"
     counts = [over_count(n) for n in range(1, ROWS + 1)]
+    _, entries, waits, refused, disagreements = plus(counts)
+    need(entries and waits and refused and not disagreements, "the two machines of tests/bakery.py are not alike")
     lines = ["n %d" % n + words % totals for n, totals in enumerate(counts, 1)] + ["all" + words % plus(counts)]
     return "".join(lines).encode("ascii")

@@ -3,7 +3,7 @@
     python3 tests/lister_program.py
 
 The inputs are those of tests/cases/lister.txt: each from a file, and the short ones, and the longest, through a pipe
-too, in small pieces of which each is written when the lister has read the one before.
+too, in pieces of which each is written when the lister has read the one before. `rt check lister` builds the program.
 """
 
 import fcntl
@@ -24,8 +24,9 @@ from case_text import lister_cases
 ROOT = os.path.dirname(os.path.dirname(os.path.abspath(__file__)))
 COMMAND = [os.path.join(ROOT, "run"), "lister"]
 SHORT, LONG = 100, 60002  # up to SHORT bytes an input comes byte by byte too, from LONG bytes on in larger pieces
-LONG_PIECE = 1000
+LONG_PIECE = 200
 LONGEST_RUN = 60  # seconds
+LONGEST_TEXT = 60062  # bytes: that of 60,000 steps of one process alone
 ENOUGH = 5  # differences: with more of them no further run is made
 
 
@@ -34,30 +35,41 @@ def unread(pipe):
     return struct.unpack("i", fcntl.ioctl(pipe, termios.FIONREAD, bytes(4)))[0]
 
 
-def write_in_pieces(lister, data, piece):
-    """Gives the lister its input piece by piece, until it has read all or has ended."""
-    deadline = time.monotonic() + LONGEST_RUN
+def taken(pipe, data):
+    """How many bytes of some a pipe takes now."""
     try:
-        for place in range(0, len(data), piece):
-            lister.stdin.write(data[place:place + piece])
-            while unread(lister.stdin) and lister.poll() is None and time.monotonic() < deadline:
-                time.sleep(0.0001)
-        lister.stdin.close()
+        return os.write(pipe.fileno(), data) if data else 0
+    except BlockingIOError:
+        return 0
     except BrokenPipeError:
-        # It has read as much as it wants.
-        pass
+        # The lister has read as much as it wants.
+        return len(data)
 
 
-def printed(data, piece=None):
+def give(lister, pieces):
+    """Gives the lister its input piece by piece, each when the one before is read, until it ends or is too slow."""
+    deadline = time.monotonic() + LONGEST_RUN
+    os.set_blocking(lister.stdin.fileno(), False)
+    for piece in pieces:
+        while piece or unread(lister.stdin):
+            piece = piece[taken(lister.stdin, piece):]
+            if lister.poll() is not None or time.monotonic() > deadline:
+                break
+            time.sleep(0.0001)
+    lister.stdin.close()
+
+
+def printed(data, pieces=None):
     """What the lister prints for an input, from a file or in pieces through a pipe; None if it does not end well."""
     with tempfile.TemporaryFile() as given, tempfile.TemporaryFile() as output:
         given.write(data)
         given.seek(0)
-        stdin = subprocess.PIPE if piece else given
-        with subprocess.Popen(COMMAND, stdin=stdin, stdout=output, bufsize=0) as lister:
+        # What it says on standard error would stand in the output too.
+        with subprocess.Popen(COMMAND, stdin=subprocess.PIPE if pieces else given, stdout=output,
+                              stderr=subprocess.STDOUT, bufsize=0) as lister:
             try:
-                if piece:
-                    write_in_pieces(lister, data, piece)
+                if pieces:
+                    give(lister, pieces)
                 ended = lister.wait(LONGEST_RUN)
             except subprocess.TimeoutExpired:
                 lister.kill()
@@ -66,13 +78,18 @@ def printed(data, piece=None):
         return output.read() if ended == 0 else None
 
 
+def cut(data, length):
+    return [data[place:place + length] for place in range(0, len(data), length)]
+
+
 def ways(data):
-    """How an input is given: the words for it, and the length of a piece, if any."""
+    """How an input is given: the words for it, and its pieces, if it comes through a pipe."""
     yield "from a file", None
     if 0 < len(data) <= SHORT:
-        yield "byte by byte", 1
+        yield "byte by byte", cut(data, 1)
     elif len(data) >= LONG:
-        yield "%d bytes at a time" % LONG_PIECE, LONG_PIECE
+        yield "%d bytes at a time" % LONG_PIECE, cut(data, LONG_PIECE)
+        yield "a byte, and then the others", [data[:1], data[1:]]
 
 
 def missing(inputs):
@@ -90,6 +107,8 @@ def missing(inputs):
             yield "algorithm %d with n = %d" % machine
     if not any(len(data) == LONG and answer.count(b"entry") >= 2000 for data, answer in zip(inputs, answers)):
         yield "an input of %d bytes with thousands of entries" % LONG
+    if LONGEST_TEXT not in map(len, answers):
+        yield "one that prints the longest text, of %d bytes" % LONGEST_TEXT
 
 
 def differences(cases):
@@ -97,12 +116,12 @@ def differences(cases):
     lines, runs = [], 0
     for name, data in cases:
         wanted = bakery.lister(data)
-        for way, piece in ways(data):
+        for way, pieces in ways(data):
             runs += 1
-            got = printed(data, piece)
+            got = printed(data, pieces)
             if got != wanted:
                 lines.append("%s, %s: %s; %s" % (name, way, told("printed", got), told("wanted", wanted)))
-            if len(lines) == ENOUGH:
+            if got is None or len(lines) == ENOUGH:
                 return lines, runs
     return lines, runs
 
@@ -110,7 +129,7 @@ def differences(cases):
 def told(word, text):
     """A text in short: its length and its end."""
     if text is None:
-        return "it did not end as it should"
+        return "it did not end, or not with status 0"
     return "%s %d bytes, ending in %r" % (word, len(text), text[-60:])
 
 

@@ -3,7 +3,8 @@
     python3 tests/pages.py
 
 README's program is that of crates/example, letter by letter; the sample in docs/WALK.md has its bytes and its listing;
-every file that a page names is there, and so is every must-fail edit.
+files and must-fail edits that a page names are there; docs/PROMISES.md has the theorems of crates/promises, and
+docs/READING.md the crates of crates.txt and the steps of the gate. What else a page says is for its reader to check.
 """
 
 import glob
@@ -14,11 +15,14 @@ import sys
 sys.dont_write_bytecode = True
 
 import bakery
+import gate
+import public_calls
 
 ROOT = os.path.dirname(os.path.dirname(os.path.abspath(__file__)))
 PAGES = ["README.md"] + sorted(os.path.relpath(path, ROOT) for path in glob.glob(os.path.join(ROOT, "docs/**/*.md"),
                                                                                 recursive=True))
-NAMED_FILE = re.compile(r"`((?:crates|docs|tests|samples)/[\w./-]*)")
+NAMED_PATH = re.compile(r"(?<![\w/.-])((?:crates|docs|tests|samples)/[\w./-]*\w)")
+NAMED_FILE = re.compile(r"`(\w+\.(?:antt|rt|txt|py))`")
 
 
 def contents(path):
@@ -50,13 +54,32 @@ def faults():
     for what, text in (("bytes", decimal_dump(sample)), ("listing", bakery.lister(sample).decode("ascii"))):
         if indented(text) not in pages["docs/WALK.md"]:
             yield "docs/WALK.md: these are not the %s of the sample" % what
-    crates = "|".join(sorted(os.listdir(os.path.join(ROOT, "crates"))))
+    files = {name for _, _, names in os.walk(os.path.join(ROOT, "crates")) for name in names}
+    files |= set(os.listdir(ROOT)) | set(os.listdir(os.path.join(ROOT, "tests/cases")))
     for path, page in pages.items():
-        for name in sorted(set(NAMED_FILE.findall(page))):
+        for name in sorted(set(NAMED_PATH.findall(page))):
             if "NAME" not in name and not os.path.exists(os.path.join(ROOT, name)):
                 yield "%s: there is no %s" % (path, name)
-        for name in sorted(set(re.findall(r"`((?:%s)/[a-z0-9_]+)`" % crates, page)) - edits()):
-            yield "%s: there is no edit %s" % (path, name)
+        for name in sorted(set(NAMED_FILE.findall(page)) - files):
+            yield "%s: there is no %s" % (path, name)
+        for name in sorted(set(re.findall(r"`((?!target)[a-z]+/[a-z0-9_-]+)`", page)) - edits()):
+            if not os.path.exists(os.path.join(ROOT, name)):
+                yield "%s: there is no edit %s" % (path, name)
+    yield from not_the_same(pages)
+
+
+def not_the_same(pages):
+    """Lists in the pages that must be those of other files."""
+    promises, reading = pages["docs/PROMISES.md"], pages["docs/READING.md"]
+    theorems = re.findall(r"^pub ([\w-]+) :", contents("crates/promises/proofs/Calls.antt").decode("utf-8"), re.M)
+    steps = [" ".join(command).replace(sys.executable, "python3") for command, _ in gate.STEPS]
+    for page, named, there in (
+        ("docs/PROMISES.md: the theorems", re.findall(r"`([\w-]+-relied)`", promises), theorems),
+        ("docs/READING.md: the crates", re.findall(r"^\| `(\w+)` \|", reading, re.M), public_calls.crates()),
+        ("docs/READING.md: the first steps", re.findall(r"^\| `((?:rt fmt|python3) [^`]*)` \|", reading, re.M), steps),
+    ):
+        for name in sorted(set(named) ^ set(there)):
+            yield "%s: %s is in one of the two lists alone" % (page, name)
 
 
 def main():

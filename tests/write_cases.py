@@ -18,6 +18,7 @@ the table is written again, to a buffer of the form's length; after a write the 
 back. The functions that end in `lines` say what the program prints below the heading.
 """
 
+import glob
 import os
 import sys
 
@@ -200,6 +201,9 @@ def entered_lines(answer):
 
 def wanted_files():
     """All files to write, by path, and the number of cases of each subject."""
+    files = sorted(os.listdir(os.path.join(ROOT, case_text.FOLDER)))
+    case_text.need(files == sorted(subject + ".txt" for subject in case_text.CASE_OF), "%s has other files than one for"
+                   " each subject: %s" % (case_text.FOLDER, " ".join(files)))
     cases = {subject: case_text.cases_of(subject) for subject in SUBJECTS}
     listed = dict(case_text.lister_cases())
     case_text.need(LISTER_STDIN in listed, "tests/cases/lister.txt has no case %s" % LISTER_STDIN)
@@ -218,33 +222,31 @@ def contents(path):
         return file.read()
 
 
-def standing_files(wanted):
-    """The files that stand there and are this program's to write."""
-    data = os.path.join(ROOT, DATA)
-    paths = [DATA + name for name in sorted(os.listdir(data))] if os.path.isdir(data) else []
-    paths += [path for path in wanted if path not in paths and os.path.exists(os.path.join(ROOT, path))]
+def standing_files():
+    """The files that stand there of those that a program is given, or held to."""
+    paths = []
+    for pattern in ("stdin", "stdout", "args", "data/**"):
+        paths += glob.glob(os.path.join(ROOT, "crates", "*", pattern), recursive=True)
+    paths = [os.path.relpath(path, ROOT) for path in sorted(paths) if os.path.isfile(path)]
     return {path: contents(path) for path in paths}
 
 
 def check(wanted):
     """Prints a line for each difference between the files wanted and those that stand; whether there is none."""
-    standing = standing_files(wanted)
+    standing = standing_files()
     differences = ["missing: " + path for path in wanted if path not in standing]
     differences += ["differs: " + path for path in wanted if path in standing and standing[path] != wanted[path]]
-    differences += ["not wanted: " + path for path in standing if path not in wanted]
+    differences += ["not written from here: " + path for path in standing if path not in wanted]
     for difference in differences:
         print(difference)
-    if differences:
-        print("Run `python3 tests/write_cases.py`, and see by `git diff` that the difference is one that you want.")
-    else:
-        print("the files are those that would be written")
+    print("the files %s those that would be written" % ("are not" if differences else "are"))
     return not differences
 
 
 def write(wanted):
     os.makedirs(os.path.join(ROOT, DATA), exist_ok=True)
-    for path in standing_files(wanted):
-        if path not in wanted:
+    for path in standing_files():
+        if path.startswith(DATA) and path not in wanted:
             os.remove(os.path.join(ROOT, path))
     for path, data in wanted.items():
         with open(os.path.join(ROOT, path), "wb") as file:
