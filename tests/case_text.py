@@ -8,15 +8,14 @@ import os
 import re
 from collections import namedtuple
 
+import files
 import schedules
 from bakery import BOUNDED, ROWS, UNBOUNDED, Table, form_length, stored_form
 
-ROOT = os.path.dirname(os.path.dirname(os.path.abspath(__file__)))
 FOLDER = "tests/cases"
 ALGORITHMS = {"unbounded": UNBOUNDED, "bounded": BOUNDED}
 SMALLEST, LARGEST = -2 ** 31, 2 ** 31 - 1
-LONGEST = 65535  # of a lent buffer, and of a form: two bytes say the length
-LONGEST_SCHEDULE = 64000  # of a run: the table stands before it
+LONGEST = 65535  # of a lent buffer, a schedule and a form: two bytes say the length
 
 Fresh = namedtuple("Fresh", "name algorithm n")
 Step = namedtuple("Step", "name table process")
@@ -219,8 +218,8 @@ def step_case(name, words, table):
 def run_case(name, words, table):
     need(words.take("run"), "`run` is due")
     schedule = schedule_of(words, name, table.algorithm, table.n)
-    need(len(schedule) <= LONGEST_SCHEDULE, "the schedule has more than %d bytes" % LONGEST_SCHEDULE)
     lent = words.number(0, LONGEST) if words.take("buffer") else len(schedule) + 5
+    need(max(lent, len(schedule)) <= LONGEST, "the schedule or its buffer has more than %d bytes" % LONGEST)
     return Run(name, table, schedule, lent)
 
 
@@ -229,9 +228,8 @@ def lister_case(name, words, table):
         return Lister(name, b"")
     if words.take("file"):
         path = words.next()
-        need(os.path.isfile(os.path.join(ROOT, path)), "there is no file %s" % path)
-        with open(os.path.join(ROOT, path), "rb") as file:
-            return Lister(name, file.read())
+        need(os.path.isfile(files.whole(path)), "there is no file %s" % path)
+        return Lister(name, files.contents(path))
     head = words.bytes()
     if words.take("|"):
         need(len(head) == 2, "algorithm and n are due before `|`")
@@ -316,8 +314,7 @@ class Reader:
 def cases_of(subject):
     """The cases of a subject, in the order of its file."""
     path = "%s/%s.txt" % (FOLDER, subject)
-    with open(os.path.join(ROOT, path), encoding="utf-8") as file:
-        lines = lines_of(file.read())
+    lines = lines_of(files.text(path))
     need(lines, "%s: there is no case" % path)
     reader = Reader(subject)
     for number, text in lines:

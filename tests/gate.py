@@ -19,13 +19,13 @@ import time
 
 sys.dont_write_bytecode = True
 
+import files
 import lister_program
 import public_calls
 
-ROOT = os.path.dirname(os.path.dirname(os.path.abspath(__file__)))
-TARGET = os.path.join(ROOT, "target")
+TARGET = files.whole("target")
 # rt writes this word here when it has proved, compiled and linked the lister.
-BUILT_FILE, BUILT = os.path.join(TARGET, "log", "lister.res"), "built"
+BUILT_FILE, BUILT = "target/log/lister.res", b"built"
 # Also on two processors: crates are proved layer by layer, and with two at a time one of them would often wait.
 JOBS = "4"
 
@@ -45,8 +45,7 @@ def stop(sentence):
 
 def lister_is_built():
     try:
-        with open(BUILT_FILE) as file:
-            return file.read().strip() == BUILT
+        return files.contents(BUILT_FILE).strip() == BUILT
     except OSError:
         return False
 
@@ -59,11 +58,18 @@ def remove_target():
         shutil.rmtree(TARGET)
 
 
+def put(line):
+    """Prints a line of `rt ci`: bytes, whatever they are."""
+    sys.stdout.flush()
+    sys.stdout.buffer.write(line)
+    sys.stdout.buffer.flush()
+
+
 def pass_on(lines, held):
     """Prints each line when the next one comes; the last one is held."""
     for line in lines:
         if held:
-            print(held.pop(), end="", flush=True)
+            put(held.pop())
         held.append(line)
 
 
@@ -78,7 +84,7 @@ def rt_ci():
     """Runs `rt ci`, and beside it the lister that it builds. Its last line comes last."""
     remove_target()
     held = []
-    ci = subprocess.Popen(["rt", "ci"], env={**os.environ, "RT_JOBS": JOBS}, start_new_session=True, text=True,
+    ci = subprocess.Popen(["rt", "ci"], env={**os.environ, "RT_JOBS": JOBS}, start_new_session=True,
                           stdout=subprocess.PIPE)
     try:
         printer = threading.Thread(target=pass_on, args=(ci.stdout, held), daemon=True)
@@ -93,20 +99,20 @@ def rt_ci():
         status = ci.wait()
         printer.join()
         if status != 0:
-            print("".join(held), end="")
+            put(b"".join(held))
             stop("`rt ci` says above what is not proved, what is not refused, or which program prints something else.")
         if not lister_is_built():
-            stop("The lister was not run: `rt ci` left no word that it was built in " + os.path.relpath(BUILT_FILE))
+            stop("The lister was not run: `rt ci` left no word that it was built in " + BUILT_FILE)
         if not public_calls.check():
             stop("Give each call named above its theorem in crates/promises and its row in docs/PROMISES.md, or make it"
                  " `pub(crate)`; `rt check promises && python3 tests/public_calls.py` tries it alone.")
-        print("".join(held), end="")
+        put(b"".join(held))
     finally:
         end(ci)
 
 
 def main():
-    os.chdir(ROOT)
+    os.chdir(files.ROOT)
     # A gate that is ended ends `rt ci` too.
     for number in (signal.SIGTERM, signal.SIGHUP):
         signal.signal(number, lambda *_: sys.exit(1))

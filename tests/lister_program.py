@@ -19,15 +19,15 @@ import time
 sys.dont_write_bytecode = True
 
 import bakery
+import files
 from case_text import lister_cases
 
-ROOT = os.path.dirname(os.path.dirname(os.path.abspath(__file__)))
-COMMAND = [os.path.join(ROOT, "run"), "lister"]
+COMMAND = [files.whole("run"), "lister"]
 SHORT, LONG = 100, 60002  # up to SHORT bytes an input comes byte by byte too, from LONG bytes on in larger pieces
 LONG_PIECE = 200
 LONGEST_RUN = 60  # seconds
 LONGEST_TEXT = 60062  # bytes: that of 60,000 steps of one process alone
-ENOUGH = 5  # differences: with more of them no further run is made
+ENOUGH = 5  # differences: after so many no further run is made
 
 
 def unread(pipe):
@@ -121,6 +121,7 @@ def differences(cases):
             got = printed(data, pieces)
             if got != wanted:
                 lines.append("%s, %s: %s; %s" % (name, way, told("printed", got), told("wanted", wanted)))
+            # A lister that does not end costs LONGEST_RUN each time.
             if got is None or len(lines) == ENOUGH:
                 return lines, runs
     return lines, runs

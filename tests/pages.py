@@ -15,19 +15,14 @@ import sys
 sys.dont_write_bytecode = True
 
 import bakery
+import files
 import gate
 import public_calls
 
-ROOT = os.path.dirname(os.path.dirname(os.path.abspath(__file__)))
-PAGES = ["README.md"] + sorted(os.path.relpath(path, ROOT) for path in glob.glob(os.path.join(ROOT, "docs/**/*.md"),
-                                                                                recursive=True))
+PAGES = ["README.md"] + sorted(os.path.relpath(path, files.ROOT)
+                               for path in glob.glob(files.whole("docs/**/*.md"), recursive=True))
 NAMED_PATH = re.compile(r"(?<![\w/.-])((?:crates|docs|tests|samples)/[\w./-]*\w)")
 NAMED_FILE = re.compile(r"`(\w+\.(?:antt|rt|txt|py))`")
-
-
-def contents(path):
-    with open(os.path.join(ROOT, path), "rb") as file:
-        return file.read()
 
 
 def indented(text):
@@ -42,28 +37,28 @@ def decimal_dump(data):
 
 def edits():
     """The must-fail edits: crate/name."""
-    paths = glob.glob(os.path.join(ROOT, "crates/*/must-fail/*.edit"))
+    paths = glob.glob(files.whole("crates/*/must-fail/*.edit"))
     return {"%s/%s" % (path.split(os.sep)[-3], os.path.basename(path)[:-len(".edit")]) for path in paths}
 
 
 def faults():
-    pages = {path: contents(path).decode("utf-8") for path in PAGES}
-    if indented(contents("crates/example/src/main.rt").decode("utf-8")) not in pages["README.md"]:
+    pages = {path: files.text(path) for path in PAGES}
+    if indented(files.text("crates/example/src/main.rt")) not in pages["README.md"]:
         yield "README.md: the program is not that of crates/example/src/main.rt"
-    sample = contents("samples/two-controllers")
+    sample = files.contents("samples/two-controllers")
     for what, text in (("bytes", decimal_dump(sample)), ("listing", bakery.lister(sample).decode("ascii"))):
         if indented(text) not in pages["docs/WALK.md"]:
             yield "docs/WALK.md: these are not the %s of the sample" % what
-    files = {name for _, _, names in os.walk(os.path.join(ROOT, "crates")) for name in names}
-    files |= set(os.listdir(ROOT)) | set(os.listdir(os.path.join(ROOT, "tests/cases")))
+    there = {name for _, _, names in os.walk(files.whole("crates")) for name in names}
+    there |= set(os.listdir(files.ROOT)) | set(os.listdir(files.whole("tests/cases")))
     for path, page in pages.items():
         for name in sorted(set(NAMED_PATH.findall(page))):
-            if "NAME" not in name and not os.path.exists(os.path.join(ROOT, name)):
+            if "NAME" not in name and not os.path.exists(files.whole(name)):
                 yield "%s: there is no %s" % (path, name)
-        for name in sorted(set(NAMED_FILE.findall(page)) - files):
+        for name in sorted(set(NAMED_FILE.findall(page)) - there):
             yield "%s: there is no %s" % (path, name)
         for name in sorted(set(re.findall(r"`((?!target)[a-z]+/[a-z0-9_-]+)`", page)) - edits()):
-            if not os.path.exists(os.path.join(ROOT, name)):
+            if not os.path.exists(files.whole(name)):
                 yield "%s: there is no edit %s" % (path, name)
     yield from not_the_same(pages)
 
@@ -71,7 +66,7 @@ def faults():
 def not_the_same(pages):
     """Lists in the pages that must be those of other files."""
     promises, reading = pages["docs/PROMISES.md"], pages["docs/READING.md"]
-    theorems = re.findall(r"^pub ([\w-]+) :", contents("crates/promises/proofs/Calls.antt").decode("utf-8"), re.M)
+    theorems = re.findall(r"^pub ([\w-]+) :", files.text(public_calls.THEOREMS), re.M)
     steps = [" ".join(command).replace(sys.executable, "python3") for command, _ in gate.STEPS]
     for page, named, there in (
         ("docs/PROMISES.md: the theorems", re.findall(r"`([\w-]+-relied)`", promises), theorems),

@@ -15,27 +15,27 @@ import re
 import sys
 from collections import namedtuple
 
-ROOT = os.path.dirname(os.path.dirname(os.path.abspath(__file__)))
+sys.dont_write_bytecode = True
+
+import files
+
 STATEMENTS, THEOREMS, PAGE = "crates/promises/specs/Calls.antt", "crates/promises/proofs/Calls.antt", "docs/PROMISES.md"
 
 # The crate, the path by which other crates know it, and the places of the parameters that are lent to be written to.
 Call = namedtuple("Call", "crate path lent")
 
 
-def contents(path):
-    with open(os.path.join(ROOT, path), encoding="utf-8") as file:
-        return file.read()
-
-
 def crates():
     """The crates that crates.txt lists."""
-    return re.findall(r"^\s*(\w+)\s*:", re.sub(r"#.*", "", contents("crates.txt")), re.M)
+    return re.findall(r"^\s*(\w+)\s*:", re.sub(r"#.*", "", files.text("crates.txt")), re.M)
 
 
 def public_paths(crate):
     """The paths of a library's public functions: each has a module of this name for its callers' proofs."""
     start, end = "Rattle.%s.proofs." % crate, ".Reads.oantt"
-    names = os.listdir(os.path.join(ROOT, "target/rlib/%s.rlib/toolchain/checked" % crate))
+    # as bytes, since not every locale can name them
+    folder = files.whole("target/rlib/%s.rlib/toolchain/checked" % crate).encode("utf-8")
+    names = [name.decode("utf-8") for name in os.listdir(folder)]
     return sorted(name[len(start):-len(end)] for name in names if name.startswith(start) and name.endswith(end))
 
 
@@ -48,7 +48,7 @@ def lent_places(function):
 
 def calls_of(crate):
     """The public functions of a library, and what is wrong with those that are not told by the library itself."""
-    own = json.loads(contents("target/rlib/%s.rlib/interface/toolchain/mir.json" % crate))
+    own = json.loads(files.text("target/rlib/%s.rlib/interface/toolchain/mir.json" % crate))
     calls, faults = [], []
     for path in public_paths(crate):
         end = "::" + path.replace(".", "::")
@@ -85,12 +85,12 @@ def faults_of(call, statements, theorems, page):
 
 def check():
     """Says which calls lack something, and answers whether none does."""
-    statements, theorems, page = (contents(path) for path in (STATEMENTS, THEOREMS, PAGE))
+    statements, theorems, page = (files.text(path) for path in (STATEMENTS, THEOREMS, PAGE))
     faults = [path + ": `{-` opens a comment; write `--`" for path, text in ((STATEMENTS, statements), (THEOREMS, theorems))
               if "{-" in text]
     calls = []
     for crate in crates():
-        if os.path.exists(os.path.join(ROOT, "crates", crate, "src", "lib.rt")):
+        if os.path.exists(files.whole("crates/%s/src/lib.rt" % crate)):
             own, wrong = calls_of(crate)
             calls += own
             faults += wrong

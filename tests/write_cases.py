@@ -27,9 +27,9 @@ sys.dont_write_bytecode = True
 import bakery
 import case_text
 import compare_totals
+import files
 from bakery import ROWS, Row, four_bytes
 
-ROOT = case_text.ROOT
 DATA = "crates/cases/data/"
 LISTER_STDIN = "lister-60002-bytes-thousands-of-entries-bounded"
 
@@ -201,34 +201,29 @@ def entered_lines(answer):
 
 def wanted_files():
     """All files to write, by path, and the number of cases of each subject."""
-    files = sorted(os.listdir(os.path.join(ROOT, case_text.FOLDER)))
-    case_text.need(files == sorted(subject + ".txt" for subject in case_text.CASE_OF), "%s has other files than one for"
-                   " each subject: %s" % (case_text.FOLDER, " ".join(files)))
+    texts = sorted(os.listdir(files.whole(case_text.FOLDER)))
+    case_text.need(texts == sorted(subject + ".txt" for subject in case_text.CASE_OF), "%s has other files than one for"
+                   " each subject: %s" % (case_text.FOLDER, " ".join(texts)))
     cases = {subject: case_text.cases_of(subject) for subject in SUBJECTS}
     listed = dict(case_text.lister_cases())
     case_text.need(LISTER_STDIN in listed, "tests/cases/lister.txt has no case %s" % LISTER_STDIN)
-    files = {DATA + subject: data_file(subject, cases[subject]) for subject in SUBJECTS}
-    files["crates/cases/args"] = text_of(SUBJECTS)
-    files["crates/cases/stdout"] = b"".join(printed(subject, cases[subject]) for subject in SUBJECTS)
-    files["crates/lister/stdin"] = listed[LISTER_STDIN]
-    files["crates/lister/stdout"] = bakery.lister(listed[LISTER_STDIN])
-    files["crates/compare/stdout"] = compare_totals.printed()
-    files["crates/example/stdout"] = text_of(example_lines())
-    return files, [(subject, len(cases[subject])) for subject in SUBJECTS] + [("lister", len(listed))]
-
-
-def contents(path):
-    with open(os.path.join(ROOT, path), "rb") as file:
-        return file.read()
+    wanted = {DATA + subject: data_file(subject, cases[subject]) for subject in SUBJECTS}
+    wanted["crates/cases/args"] = text_of(SUBJECTS)
+    wanted["crates/cases/stdout"] = b"".join(printed(subject, cases[subject]) for subject in SUBJECTS)
+    wanted["crates/lister/stdin"] = listed[LISTER_STDIN]
+    wanted["crates/lister/stdout"] = bakery.lister(listed[LISTER_STDIN])
+    wanted["crates/compare/stdout"] = compare_totals.printed()
+    wanted["crates/example/stdout"] = text_of(example_lines())
+    return wanted, [(subject, len(cases[subject])) for subject in SUBJECTS] + [("lister", len(listed))]
 
 
 def standing_files():
     """The files that stand there of those that a program is given, or held to."""
     paths = []
     for pattern in ("stdin", "stdout", "args", "data/**"):
-        paths += glob.glob(os.path.join(ROOT, "crates", "*", pattern), recursive=True)
-    paths = [os.path.relpath(path, ROOT) for path in sorted(paths) if os.path.isfile(path)]
-    return {path: contents(path) for path in paths}
+        paths += glob.glob(files.whole("crates/*/" + pattern), recursive=True)
+    paths = [os.path.relpath(path, files.ROOT) for path in sorted(paths) if os.path.isfile(path)]
+    return {path: files.contents(path) for path in paths}
 
 
 def check(wanted):
@@ -244,12 +239,12 @@ def check(wanted):
 
 
 def write(wanted):
-    os.makedirs(os.path.join(ROOT, DATA), exist_ok=True)
+    os.makedirs(files.whole(DATA), exist_ok=True)
     for path in standing_files():
         if path.startswith(DATA) and path not in wanted:
-            os.remove(os.path.join(ROOT, path))
+            os.remove(files.whole(path))
     for path, data in wanted.items():
-        with open(os.path.join(ROOT, path), "wb") as file:
+        with open(files.whole(path), "wb") as file:
             file.write(data)
 
 

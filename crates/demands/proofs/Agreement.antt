@@ -61,7 +61,8 @@ unfolding lineOf
 line-of-place index = each-line (λ (k : ℕ). lineOf (placeOf k index) ≡ k) refl refl refl refl refl refl refl refl refl refl
 
 -- the index, where it keeps its rule,
-index-of-place : (n i index line : ℕ) → within firstLine lastLine line ≡ true → indexOk n i line index ≡ true → indexOf (placeOf line index) ≡ index
+index-of-place : (n i index line : ℕ) → within firstLine lastLine line ≡ true → indexOk n i line index ≡ true
+    → indexOf (placeOf line index) ≡ index
 unfolding indexOf indexOk
 index-of-place n i index =
     each-line (λ (k : ℕ). indexOk n i k index ≡ true → indexOf (placeOf k index) ≡ index)

@@ -46,7 +46,8 @@ pub record Clustered (others : ℕ) (s : State) (i : ℕ) : Type 0 where
 -- the next token on remainders is the remainder of the next token, by Lemma 1
 next-on-remainders : (others : ℕ) (pivot : Token) (cell : ℕ → Token) → IsHeld pivot
     → ((p k v : ℕ) → Process (suc others) k → pivot ≡ held p → cell k ≡ held v → Near others p v)
-    → nextBounded (modulus others) others (reduced others pivot) (λ k. reduced others (cell k)) ≡ reduced others (nextUnbounded others pivot cell)
+    → nextBounded (modulus others) others (reduced others pivot) (λ k. reduced others (cell k))
+    ≡ reduced others (nextUnbounded others pivot cell)
 next-on-remainders others zero cell some near = absurd (omega arith)
 next-on-remainders others (suc p) cell some near = lemma-1 others p cell (λ k v q. near p k v q refl)
 

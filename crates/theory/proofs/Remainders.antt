@@ -74,7 +74,8 @@ largest-shifted others p cell (suc n) near =
 
 -- Lemma 1. Where the tokens read at line 2 cluster around the pivot, the next token on f of them is f of the next token.
 pub lemma-1 : (others p : ℕ) (cell : ℕ → Token) → ((k v : ℕ) → Process (suc others) k → cell k ≡ held v → Near others p v)
-    → nextBounded (modulus others) others (reduced others (held p)) (λ k. reduced others (cell k)) ≡ reduced others (nextUnbounded others (held p) cell)
+    → nextBounded (modulus others) others (reduced others (held p)) (λ k. reduced others (cell k))
+    ≡ reduced others (nextUnbounded others (held p) cell)
 unfolding nextBounded nextUnbounded shifted
 lemma-1 others p cell near =
     rw (number-of-held (p % modulus others))
