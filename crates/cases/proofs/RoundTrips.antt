@@ -8,7 +8,7 @@ use lib.ListN.{length, take}
 use Rattle.fields.specs.Refusals.{noRefusal}
 use Rattle.table.specs.Sized.{Sized}
 use Rattle.table.specs.declared.Table.{Table}
-use Rattle.fields.proofs.Tests.{by-test}
+use Rattle.laws.proofs.Tests.{by-test}
 use Rattle.writer.specs.Writing.{writeOf, bufferOf}
 use Rattle.reader.specs.Reading.{readOf}
 use Rattle.reader.specs.declared.Restored.{Restored}

@@ -7,7 +7,7 @@ ghost use lib.Dec.{T};
 ghost use lib.IntN.{pos, natAbs};
 ghost use lib.ListN.{getD};
 ghost use lib.Signed.{nonNeg};
-ghost use Rattle.fields.specs.Tests.{every};
+ghost use Rattle.laws.specs.Tests.{every};
 ghost use Rattle.fields.specs.Numbers.{slots, modulusOf};
 ghost use Rattle.demands.specs.Agreement.{isRemainder, cellAgrees, rowAgrees, rowAtAgrees, agree, isCritical, atMostOne, meets};
 ghost use Rattle.compare.specs.Same.{same};

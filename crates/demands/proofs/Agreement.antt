@@ -7,13 +7,13 @@ use borrow.Author.Tests.{le-leb, leb-true, eq-eqb, eqb-true}
 use lib.Dec.{eqb}
 use lib.IntN.{ℤ, pos, negsuc}
 use lib.ListN.{length}
-use Rattle.fields.specs.Tests.{within, howMany}
+use Rattle.laws.specs.Tests.{within, howMany}
 use Rattle.fields.specs.Numbers.{slots, firstLine, lastLine, modulusOf}
 use Rattle.fields.specs.Rules.{indexOk, choosingOk}
 use Rattle.table.specs.WellFormed.{rowOf, cellOf, cellRule}
 use Rattle.table.specs.declared.Row.{Row}
 use Rattle.table.specs.declared.Table.{Table}
-use Rattle.fields.proofs.Tests.{and-both, every-all, many-at-most-one}
+use Rattle.laws.proofs.Tests.{and-both, every-all, many-at-most-one}
 use Rattle.table.proofs.WellFormed.{RowRules, table-rules, line-range, above-fresh}
 use Rattle.theory.proofs.Counting.{Process, by-order}
 use Rattle.theory.proofs.Tokens.{modulus, reduced}

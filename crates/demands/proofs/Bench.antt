@@ -8,16 +8,16 @@ use borrow.Author.Tests.{le-leb}
 use lib.Dec.{leb, leb·zero}
 use lib.IntN.{ℤ, pos}
 use lib.ListN.{length, replicate, length-replicate}
-use Rattle.fields.specs.Tests.{every, howMany}
+use Rattle.laws.specs.Tests.{every, howMany}
 use Rattle.fields.specs.Numbers.{slots, unbounded, bounded, tokenLimit, scheduleLimit}
 use Rattle.fields.specs.Refusals.{noRefusal}
 use Rattle.fields.specs.Rules.{algorithmOk, countOk}
 use Rattle.table.specs.WellFormed.{rowOf, wellFormed}
 use Rattle.table.specs.Fresh.{allNone, freshRow, freshTable}
-use Rattle.table.specs.Lent.{inFront}
+use Rattle.laws.specs.Lent.{inFront}
 use Rattle.table.specs.declared.Row.{Row}
 use Rattle.table.specs.declared.Table.{Table}
-use Rattle.fields.proofs.Tests.{_and_, within-low, within-high, every-at}
+use Rattle.laws.proofs.Tests.{_and_, within-low, within-high, every-at}
 use Rattle.table.proofs.WellFormed.{fresh-well-formed}
 use Rattle.rows.specs.Setters.{withLine, withIndex, withToken}
 use Rattle.rows.specs.Lines.{line4, lineStep, anyLine}

@@ -4,7 +4,7 @@ use mathlib.Core.Path.{_≡_, refl}
 use mathlib.Core.Bool.{Bool, true, cond, _&&_}
 use mathlib.Core.List.{List, [], _∷_, flatten}
 use lib.Dec.{eqb}
-use Rattle.fields.specs.Tests.{within, every, howMany}
+use Rattle.laws.specs.Tests.{within, every, howMany}
 use Rattle.fields.specs.Numbers.{limitOf}
 use Rattle.fields.specs.Refusals.{noRefusal}
 use Rattle.fields.specs.Rules.{algorithmOk, countOk, lineOk, indexOk, choosingOk, tokenOk, pivotOk, mayHold, cellOk}
@@ -12,7 +12,7 @@ use Rattle.table.specs.WellFormed.{rowOf, cellRule, cellsOk, rowOk, rowRule, ro
 use Rattle.table.specs.Fresh.{freshTable}
 use Rattle.table.specs.Sized.{Sized}
 use Rattle.table.specs.declared.Table.{Table}
-use Rattle.fields.proofs.Tests.{and-halves}
+use Rattle.laws.proofs.Tests.{and-halves}
 use Rattle.table.proofs.WellFormed.{fresh-well-formed, fresh-sized}
 use Rattle.tokens.specs.Tokens.{remainder, largest, nextUb, shifted, shiftedCell, nextB, beforeUb, beforeB, nextToken, goesBefore}
 use Rattle.rows.specs.Lines.{nextOther, goesOn, line2, line4, line5, line6, line7, lineStep, anyLine}

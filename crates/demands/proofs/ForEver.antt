@@ -5,12 +5,12 @@ use mathlib.Core.Bool.{true, false, true≢false}
 use native.Mathlib.Omega.{arith}
 use borrow.Author.Tests.{leb-true, eq-eqb}
 use lib.IntN.{ℤ, pos, negsuc, natAbs}
-use Rattle.fields.specs.Tests.{withinℤ}
+use Rattle.laws.specs.Tests.{withinℤ}
 use Rattle.fields.specs.Numbers.{bounded, none, isNone, limitOf}
 use Rattle.table.specs.WellFormed.{rowOf}
 use Rattle.table.specs.Fresh.{freshTable}
 use Rattle.table.specs.declared.Table.{Table}
-use Rattle.fields.proofs.Tests.{and-halves}
+use Rattle.laws.proofs.Tests.{and-halves}
 use Rattle.table.proofs.WellFormed.{table-rules, token-range}
 use Rattle.runs.specs.Run.{courseOf}
 use Rattle.theory.proofs.Counting.{Process}

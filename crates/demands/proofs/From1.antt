@@ -16,7 +16,7 @@ use Rattle.table.specs.Fresh.{allNone, freshRow, freshTable}
 use Rattle.table.specs.Sized.{Sized}
 use Rattle.table.specs.declared.Row.{Row}
 use Rattle.table.specs.declared.Table.{Table}
-use Rattle.fields.proofs.Tests.{of-choice}
+use Rattle.laws.proofs.Tests.{of-choice}
 use Rattle.theory.proofs.Counting.{by-order, by-equality}
 use Rattle.theory.proofs.Tokens.{Token}
 use Rattle.theory.proofs.Tokens as theory

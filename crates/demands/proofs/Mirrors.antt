@@ -12,7 +12,7 @@ use Rattle.fields.specs.Refusals.{noRefusal}
 use Rattle.fields.specs.Rules.{countOk}
 use Rattle.table.specs.Fresh.{freshTable}
 use Rattle.table.specs.declared.Table.{Table}
-use Rattle.fields.proofs.Tests.{by-test}
+use Rattle.laws.proofs.Tests.{by-test}
 use Rattle.machine.specs.Step.{stepOf}
 use Rattle.machine.proofs.Steps.{step-process}
 use Rattle.runs.specs.Run.{Course, courseOf}

@@ -13,7 +13,7 @@ use lib.IntN.{ℤ, pos, _+ℤ_, _-ℤ_}
 use lib.Signed.{ltZ}
 use lib.ListN.{length, set, replicate, length-append, length-replicate, length-map, getD-replicate}
 use lib.Seq.{getD-set-same, getD-set-other, set-getD, set-set}
-use Rattle.fields.specs.Tests.{within, howMany}
+use Rattle.laws.specs.Tests.{within, howMany}
 use Rattle.fields.specs.Numbers.{slots, none, unbounded, modulusOf, tokenLimit}
 use Rattle.fields.specs.Refusals.{noRefusal}
 use Rattle.fields.specs.Rules.{algorithmOk, countOk}
@@ -21,7 +21,7 @@ use Rattle.table.specs.WellFormed.{rowOf, noRow}
 use Rattle.table.specs.Fresh.{allNone, freshRow, freshTable}
 use Rattle.table.specs.declared.Row.{Row}
 use Rattle.table.specs.declared.Table.{Table}
-use Rattle.fields.proofs.Tests.{and-both, within-high, within-yes}
+use Rattle.laws.proofs.Tests.{and-both, within-high, within-yes}
 use Rattle.tokens.specs.Tokens.{remainder, largest, shifted, shiftedCell, nextUb, nextB, nextToken}
 use Rattle.tokens.specs.Answers.{isAboveLimit}
 use Rattle.rows.specs.Setters.{withLine, withIndex, withChoosing, withToken, withPivot}

@@ -8,13 +8,13 @@ use borrow.Author.Tests.{lt-leb, leb-true, eq-eqb, eqb-true}
 use lib.Dec.{leb, eqb, eqb·suc-zero}
 use lib.IntN.{ℤ, pos, negsuc}
 use lib.ListN.{length}
-use Rattle.fields.specs.Tests.{within, withinℤ}
+use Rattle.laws.specs.Tests.{within, withinℤ}
 use Rattle.fields.specs.Numbers.{slots, none, isNone, topOf}
 use Rattle.fields.specs.Refusals.{noRefusal}
 use Rattle.fields.specs.Rules.{indexOk, choosingOk, tokenOk, pivotOk, mayHold, cellOk}
 use Rattle.table.specs.WellFormed.{cellRule}
 use Rattle.table.specs.declared.Row.{Row}
-use Rattle.fields.proofs.Tests.{by-test, and-halves, within-low, within-high}
+use Rattle.laws.proofs.Tests.{by-test, and-halves, within-low, within-high}
 use Rattle.table.proofs.WellFormed.{RowRules, is-none, line-range}
 use Rattle.tokens.specs.Tokens.{nextToken, goesBefore}
 use Rattle.tokens.specs.Answers.{isAboveLimit}

@@ -5,14 +5,14 @@ use mathlib.Core.List.{_∷_}
 use native.Mathlib.Omega.{arith}
 use lib.IntN.{ℤ, pos}
 use lib.ListN.{replicate}
-use Rattle.fields.specs.Tests.{within, every, howMany}
+use Rattle.laws.specs.Tests.{within, every, howMany}
 use Rattle.fields.specs.Numbers.{slots, unbounded, bounded}
 use Rattle.fields.specs.Refusals.{noRefusal}
 use Rattle.table.specs.WellFormed.{rowOf}
 use Rattle.table.specs.Fresh.{freshRow, freshTable}
 use Rattle.table.specs.declared.Row.{Row}
 use Rattle.table.specs.declared.Table.{Table}
-use Rattle.fields.proofs.Tests.{up-to-next}
+use Rattle.laws.proofs.Tests.{up-to-next}
 use Rattle.tokens.specs.Tokens.{remainder}
 use Rattle.rows.specs.Setters.{withLine, withIndex, withChoosing, withToken}
 use Rattle.runs.specs.Run.{Course, courseOf}

@@ -8,14 +8,14 @@ use borrow.Author.Tests.{eqb-true}
 use lib.Dec.{eqb}
 use lib.ListN.{length, take}
 use lib.Seq.{take-length}
-use Rattle.fields.specs.Tests.{within}
+use Rattle.laws.specs.Tests.{within}
 use Rattle.fields.specs.Numbers.{slots, unbounded, bounded}
 use Rattle.fields.specs.Refusals.{noRefusal}
 use Rattle.fields.specs.Rules.{countOk}
 use Rattle.table.specs.WellFormed.{rowOf}
 use Rattle.table.specs.Fresh.{freshTable}
 use Rattle.table.specs.declared.Table.{Table}
-use Rattle.fields.proofs.Tests.{by-test, and-both, many-same}
+use Rattle.laws.proofs.Tests.{by-test, and-both, many-same}
 use Rattle.machine.specs.Step.{stepOf}
 use Rattle.machine.proofs.Steps.{step-process}
 use Rattle.runs.specs.Run.{Course, turnOf, begunBy, courseOf, movedIn, waitedIn, entriesIn, enteredIn, isWaiting, waitingOf, answerOf}

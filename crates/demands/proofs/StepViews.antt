@@ -12,7 +12,7 @@ use Rattle.table.specs.Fresh.{freshRow}
 use Rattle.table.specs.Sized.{Sized}
 use Rattle.table.specs.declared.Row.{Row}
 use Rattle.table.specs.declared.Table.{Table}
-use Rattle.fields.proofs.Tests.{by-test, within-yes}
+use Rattle.laws.proofs.Tests.{by-test, within-yes}
 use Rattle.table.proofs.WellFormed.{table-rules}
 use Rattle.rows.specs.Lines.{passes, line2, line4, line5, line6, line7, anyLine}
 use Rattle.rows.specs.declared.Seen.{Seen}

@@ -10,9 +10,9 @@ use borrow.Author.Tests.{ltb-true, ltb-false, leb-true, eq-eqb}
 use lib.Dec.{ltb, eqb, leb·suc-suc, eqb·suc-suc}
 use lib.IntN.{ℤ, pos, negsuc, negℤ, _+ℤ_, _-ℤ_, +ℤ-assoc, +ℤ-comm}
 use lib.ListN.{length, length-map}
-use Rattle.fields.specs.Tests.{within, withinℤ}
+use Rattle.laws.specs.Tests.{within, withinℤ}
 use Rattle.fields.specs.Numbers.{none, unbounded, tokenLimit, limitOf, topOf, modulusOf}
-use Rattle.fields.proofs.Tests.{by-test, within-high}
+use Rattle.laws.proofs.Tests.{by-test, within-high}
 use Rattle.tokens.specs.Tokens.{remainder, larger, nextUb, nextB, beforeUb, beforeB, nextToken, goesBefore}
 use Rattle.tokens.specs.Tokens as machine
 use Rattle.theory.proofs.Counting.{largest}

@@ -3,7 +3,7 @@ use Prim.Native.Nat.{ℕ, _%_}
 use mathlib.Core.Bool.{Bool, _&&_}
 use lib.Dec.{leb, eqb}
 use lib.IntN.{ℤ, pos, negsuc}
-use Rattle.fields.specs.Tests.{within, every, howMany, eqℤ}
+use Rattle.laws.specs.Tests.{within, every, howMany, eqℤ}
 use Rattle.fields.specs.Numbers.{slots, none, modulusOf}
 use Rattle.table.specs.WellFormed.{rowOf, cellOf}
 use Rattle.table.specs.declared.Row.{Row}

@@ -11,7 +11,7 @@ use Rattle.fields.specs.Refusals.{noRefusal, badProcessNumber, aboveTokenLimit}
 use Rattle.fields.specs.Rules.{countOk}
 use Rattle.table.specs.WellFormed.{rowOf}
 use Rattle.table.specs.Fresh.{allNone, freshRow, freshTable}
-use Rattle.table.specs.Lent.{inFront}
+use Rattle.laws.specs.Lent.{inFront}
 use Rattle.table.specs.declared.Table.{Table}
 use Rattle.tokens.specs.Tokens.{nextToken, goesBefore}
 use Rattle.rows.specs.Setters.{withLine, withChoosing, withPivot, withCells}

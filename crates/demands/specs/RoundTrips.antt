@@ -9,7 +9,7 @@ use lib.ListN.{length, getD, take}
 use Rattle.fields.specs.Refusals.{noRefusal}
 use Rattle.table.specs.WellFormed.{wellFormed}
 use Rattle.table.specs.Sized.{Sized}
-use Rattle.table.specs.Lent.{inFront}
+use Rattle.laws.specs.Lent.{inFront}
 use Rattle.table.specs.declared.Table.{Table}
 use Rattle.writer.specs.Form.{encode, formLength}
 use Rattle.writer.specs.Writing.{writeOf, bufferOf}

@@ -5,7 +5,7 @@ use mathlib.Core.List.{List, [], _∷_, _++_, append-assoc, append-nil}
 use native.Mathlib.Numerals.{add-one}
 use lib.ListN.{length, getD, take, drop, take-append-drop}
 use lib.Seq.{take-suc}
-use Rattle.table.proofs.Writes.{room-first}
+use Rattle.laws.proofs.Writes.{room-first}
 use Rattle.listing.specs.Listing.{entryLine, entryLines}
 use Rattle.listing.specs.Room.{room}
 

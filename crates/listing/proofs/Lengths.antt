@@ -10,7 +10,7 @@ use borrow.Author.Tests.{eqb-true}
 use Rattle.fields.specs.Numbers.{slots}
 use Rattle.fields.specs.Refusals.{noRefusal}
 use Rattle.table.specs.declared.Table.{Table}
-use Rattle.fields.proofs.Tests.{by-test}
+use Rattle.laws.proofs.Tests.{by-test}
 use Rattle.machine.specs.Step.{stepOf}
 use Rattle.machine.proofs.Steps.{step-machine, step-process}
 use Rattle.runs.specs.Run.{Turn, Course, turnOf, those, courseOf, isEntry, enteredIn}

@@ -8,7 +8,7 @@ ghost use lib.ListN.{length};
 ghost use lib.Seq.{sets};
 ghost use Rattle.fields.specs.Numbers.{scheduleLimit};
 ghost use Rattle.table.specs.WellFormed.{wellFormed};
-ghost use Rattle.table.specs.Lent.{Written};
+ghost use Rattle.laws.specs.Lent.{Written};
 ghost use Rattle.runs.specs.Run.{courseOf};
 ghost use Rattle.listing.specs.Listing.{refusedLine, bakeryLine, entryLine, entryLines, countsLine, report, listingOf};
 ghost use Rattle.listing.specs.Room.{room};

@@ -3,11 +3,11 @@ use Prim.Native.Nat.{ℕ, _≤_}
 use mathlib.Core.Path.{_≡_}
 use mathlib.Core.Bool.{true}
 use native.Mathlib.Omega.{arith}
-use Rattle.fields.specs.Tests.{within}
+use Rattle.laws.specs.Tests.{within}
 use Rattle.fields.specs.Numbers.{slots}
 use Rattle.table.specs.WellFormed.{rowOf, wellFormed}
 use Rattle.table.specs.declared.Table.{Table}
-use Rattle.fields.proofs.Tests.{within-low, within-high}
+use Rattle.laws.proofs.Tests.{within-low, within-high}
 use Rattle.table.proofs.WellFormed.{table-rules, line-range, index-range}
 use Rattle.rows.specs.Ready.{Ready}
 

@@ -7,14 +7,14 @@ use native.Mathlib.Omega.{arith}
 use native.Mathlib.Decide.{ℕ-discrete}
 use lib.ListN.{length, set, length-set}
 use lib.Seq.{getD-set-same, getD-set-other, set-getD}
-use Rattle.fields.specs.Tests.{within}
+use Rattle.laws.specs.Tests.{within}
 use Rattle.fields.specs.Numbers.{slots, limitOf, topOf}
 use Rattle.fields.specs.Refusals.{notWellFormed, badProcessNumber}
 use Rattle.table.specs.WellFormed.{noRow, rowOf, wellFormed}
 use Rattle.table.specs.Sized.{Sized}
 use Rattle.table.specs.declared.Row.{Row}
 use Rattle.table.specs.declared.Table.{Table}
-use Rattle.fields.proofs.Tests.{by-test, within-low, within-high}
+use Rattle.laws.proofs.Tests.{by-test, within-low, within-high}
 use Rattle.table.proofs.WellFormed.{TableRules, RowRules, table-rules, well-formed, token-range}
 use Rattle.rows.specs.Lines.{anyLine}
 use Rattle.rows.specs.declared.Advanced.{Advanced}

@@ -2,7 +2,7 @@
 use Prim.Native.Nat.{ℕ, _-_}
 use mathlib.Core.Bool.{cond}
 use lib.ListN.{set}
-use Rattle.fields.specs.Tests.{within}
+use Rattle.laws.specs.Tests.{within}
 use Rattle.fields.specs.Refusals.{notWellFormed, badProcessNumber}
 use Rattle.table.specs.WellFormed.{rowOf, wellFormed}
 use Rattle.table.specs.declared.Row.{Row}

@@ -8,7 +8,7 @@ use borrow.Author.Tests.{le-leb, leb-true, eq-eqb, eqb-true}
 use lib.ListN.{length}
 use Rattle.fields.specs.Numbers.{slots}
 use Rattle.table.specs.WellFormed.{cellRule}
-use Rattle.fields.proofs.Tests.{_and_, within-yes}
+use Rattle.laws.proofs.Tests.{_and_, within-yes}
 use Rattle.table.proofs.WellFormed.{RowRules, TableRules}
 use Rattle.writer.specs.Form.{headKind, rowKind, cellsKind, headLength, formLength}
 use Rattle.reader.specs.Fields.{byteAt, rowPlace, cellsPlace, countIn, topIn, rowIn, tableIn}

@@ -8,13 +8,13 @@ use mathlib.Core.Logic.{⊎-elim}
 use native.Mathlib.Omega.{arith}
 use native.Mathlib.Nat.{le-of-suc-le-suc, eq-or-lt-of-le}
 use native.Mathlib.Numerals.{add-one}
-use Rattle.fields.proofs.Tests.{up-to-next}
-use Rattle.writer.specs.Form.{inTurn}
+use Rattle.laws.proofs.Tests.{up-to-next}
+use Rattle.laws.specs.InTurn.{inTurn}
 use Rattle.reader.specs.Reading.{Check, check, firstFault}
 use Rattle.reader.specs.declared.Fault.{Fault}
 use Rattle.reader.specs.declared.Search.{Search}
 use Rattle.reader.specs.declared.Search.the-variants.{Found, Nothing}
-use Rattle.writer.proofs.Lengths.{turn-more}
+use Rattle.laws.proofs.InTurn.{turn-more}
 
 -- every check of a list holds
 abbrev pub Hold : List Check → Type 0

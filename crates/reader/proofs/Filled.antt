@@ -6,10 +6,10 @@ use native.Mathlib.Omega.{arith}
 use lib.ListN.{length, getD, replicate, set, length-append, length-replicate, getD-replicate}
 use lib.Seq.{set-at}
 use Rattle.fields.specs.Numbers.{slots}
-use Rattle.writer.specs.Form.{inTurn}
+use Rattle.laws.specs.InTurn.{inTurn}
 use Rattle.reader.specs.Fields.{filled}
-use Rattle.writer.proofs.Lengths.{turn-more, turn-length}
-use Rattle.reader.proofs.Standing.{stands-itself, stands-first, first-stands, second-stands, turn-stands}
+use Rattle.laws.proofs.InTurn.{turn-more, turn-length}
+use Rattle.laws.proofs.Standing.{stands-itself, stands-first, first-stands, second-stands, turn-stands}
 
 -- Its elements.
 module _ {A : Type 0} (f : ℕ → A) (k : ℕ) (rest : A) where

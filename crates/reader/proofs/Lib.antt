@@ -1,4 +1,3 @@
-pub mod Standing
 pub mod Filled
 pub mod Numbers
 pub mod Ranges

@@ -9,11 +9,11 @@ use lib.IntN.{ℤ, pos, negsuc}
 use mir.Syntax.{w32}
 use mir.Val.{SFits}
 use Rattle.fields.specs.Numbers.{allBits}
-use Rattle.fields.proofs.Tests.{by-test}
+use Rattle.laws.proofs.Tests.{by-test}
 use Rattle.writer.specs.FourBytes.{bitsOf, fourDigits, fourBytes}
 use Rattle.writer.proofs.Signs.{bits-fit}
 use Rattle.reader.specs.Fields.{numberOf, byteAt, bitsAt, numberAt}
-use Rattle.reader.proofs.Standing.{Stands, stands-first, listed-stand}
+use Rattle.laws.proofs.Standing.{Stands, stands-first, listed-stand}
 
 -- A number and its bits.
 number-bits : (v : ℤ) → SFits w32 v → numberOf (bitsOf v) ≡ v

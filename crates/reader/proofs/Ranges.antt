@@ -8,10 +8,10 @@ use lib.Dec.{leb, eqb}
 use lib.IntN.{ℤ, pos, negsuc}
 use mir.Syntax.{w32}
 use mir.Val.{SFits}
-use Rattle.fields.specs.Tests.{within, withinℤ}
+use Rattle.laws.specs.Tests.{within, withinℤ}
 use Rattle.fields.specs.Numbers.{slots, none, isNone, unbounded, tokenLimit, limitOf, topOf}
 use Rattle.fields.specs.Rules.{xOk, tokenOk, pivotOk, cellOk}
-use Rattle.fields.proofs.Tests.{by-test, and-halves}
+use Rattle.laws.proofs.Tests.{by-test, and-halves}
 use Rattle.table.proofs.WellFormed.{is-none}
 
 none-fits : (v : ℤ) → isNone v ≡ true → SFits w32 v

@@ -13,13 +13,14 @@ use Rattle.table.specs.Fresh.{freshRow}
 use Rattle.table.specs.Sized.{Sized}
 use Rattle.table.specs.declared.Row.{Row}
 use Rattle.table.specs.declared.Table.{Table}
-use Rattle.fields.proofs.Tests.{within-yes}
+use Rattle.laws.proofs.Tests.{within-yes}
 use Rattle.table.proofs.WellFormed.{RowRules, TableRules, above-fresh}
 use Rattle.writer.specs.FourBytes.{fourDigits, fourBytes}
-use Rattle.writer.specs.Form.{headKind, rowKind, cellsKind, inTurn, headRecord, rowRecord, cellsRecord, formLength}
+use Rattle.laws.specs.InTurn.{inTurn}
+use Rattle.writer.specs.Form.{headKind, rowKind, cellsKind, headRecord, rowRecord, cellsRecord, formLength}
 use Rattle.reader.specs.Fields.{algorithmIn, countIn, xIn, topIn, rowIn, tableIn}
 use Rattle.writer.proofs.Lengths.{four-length}
-use Rattle.reader.proofs.Standing.{Stands, stands-first, first-stands, second-stands, turn-stands}
+use Rattle.laws.proofs.Standing.{Stands, stands-first, first-stands, second-stands, turn-stands}
 use Rattle.reader.proofs.Numbers.{number-read}
 use Rattle.reader.proofs.Ranges.{x-fits, token-fits, pivot-fits, cell-fits}
 use Rattle.reader.proofs.TableIn.{cell-in, each-row, row-in-sized, table-in-sized, table-in-rules}

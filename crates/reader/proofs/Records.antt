@@ -3,10 +3,11 @@ use Prim.Native.Nat.{ℕ, _+_, _≤_}
 use mathlib.Core.List.{List}
 use Rattle.table.specs.WellFormed.{rowOf}
 use Rattle.table.specs.declared.Table.{Table}
-use Rattle.writer.specs.Form.{inTurn, headRecord, rowRecord, cellsRecord, recordsOf, encode, rowLength, cellsLength}
+use Rattle.laws.specs.InTurn.{inTurn}
+use Rattle.writer.specs.Form.{headRecord, rowRecord, cellsRecord, recordsOf, encode, rowLength, cellsLength}
 use Rattle.reader.specs.Fields.{rowPlace, cellsPlace}
 use Rattle.writer.proofs.Lengths.{head-length, row-length, records-length}
-use Rattle.reader.proofs.Standing.{Stands, stands-itself, first-stands, second-stands, both-stand, turn-stands, turns-stand}
+use Rattle.laws.proofs.Standing.{Stands, stands-itself, first-stands, second-stands, both-stand, turn-stands, turns-stand}
 
 -- the records of t are in s
 pub record Records (s : List ℕ) (t : Table) : Type 0 where

@@ -13,7 +13,7 @@ use Rattle.table.specs.WellFormed.{rowOf, cellOf, noRow}
 use Rattle.table.specs.Fresh.{freshRow}
 use Rattle.table.specs.Sized.{Sized}
 use Rattle.table.specs.declared.Row.{Row}
-use Rattle.fields.proofs.Tests.{within-low, within-high}
+use Rattle.laws.proofs.Tests.{within-low, within-high}
 use Rattle.table.proofs.WellFormed.{RowRules, TableRules, fresh-row-rules}
 use Rattle.reader.specs.Fields.{algorithmIn, countIn, xIn, topIn, cellIn, rowIn, tableIn}
 use Rattle.reader.proofs.Filled.{filled-length, filled-first, filled-after}

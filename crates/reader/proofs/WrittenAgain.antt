@@ -5,10 +5,11 @@ use mathlib.Core.List.{List, [], _∷_, _++_}
 use Rattle.fields.specs.Numbers.{slots}
 use Rattle.table.specs.WellFormed.{cellOf}
 use Rattle.writer.specs.FourBytes.{fourDigits, fourBytes}
-use Rattle.writer.specs.Form.{headKind, rowKind, cellsKind, inTurn, headRecord, rowRecord, cellsRecord, encode}
+use Rattle.laws.specs.InTurn.{inTurn}
+use Rattle.writer.specs.Form.{headKind, rowKind, cellsKind, headRecord, rowRecord, cellsRecord, encode}
 use Rattle.reader.specs.Fields.{byteAt, rowPlace, cellsPlace, cellPlace, countIn, rowIn, tableIn}
 use Rattle.writer.proofs.Lengths.{four-length, encode-length}
-use Rattle.reader.proofs.Standing.{Stands, stands-whole, listed-stand, both-stand, turns-stand}
+use Rattle.laws.proofs.Standing.{Stands, stands-whole, listed-stand, both-stand, turns-stand}
 use Rattle.reader.proofs.Numbers.{number-again}
 use Rattle.reader.proofs.TableIn.{cell-in, row-in}
 use Rattle.reader.proofs.Records.{Records, records-whole}

@@ -9,7 +9,8 @@ use Rattle.fields.specs.Numbers.{slots, none, topOf, allBits}
 use Rattle.table.specs.Fresh.{freshRow}
 use Rattle.table.specs.declared.Row.{Row}
 use Rattle.table.specs.declared.Table.{Table}
-use Rattle.writer.specs.Form.{inTurn, rowLength, formLength}
+use Rattle.laws.specs.InTurn.{inTurn}
+use Rattle.writer.specs.Form.{rowLength, formLength}
 
 -- the number of some bits: the upper half are the numbers below 0
 unfoldable pub numberOf : ℕ → ℤ

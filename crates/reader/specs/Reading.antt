@@ -8,7 +8,8 @@ use Rattle.fields.specs.Numbers.{slots, unbounded}
 use Rattle.fields.specs.Refusals.{noRefusal, formTooShort, wrongKind, formTooLong, badField}
 use Rattle.fields.specs.Rules.{algorithmOk, countOk, xOk, lineOk, indexOk, choosingOk, tokenOk, pivotOk, mayHold, cellOk}
 use Rattle.table.specs.Fresh.{freshTable}
-use Rattle.writer.specs.Form.{inTurn, headKind, rowKind, cellsKind, headLength, formLength}
+use Rattle.laws.specs.InTurn.{inTurn}
+use Rattle.writer.specs.Form.{headKind, rowKind, cellsKind, headLength, formLength}
 use Rattle.reader.specs.Fields.{byteAt, algorithmPlace, countPlace, xPlace, rowPlace, linePlace, indexPlace, choosingPlace}
 use Rattle.reader.specs.Fields.{tokenPlace, pivotPlace, cellsPlace, cellPlace, algorithmIn, countIn, topIn, xIn, lineIn, indexIn}
 use Rattle.reader.specs.Fields.{choosingIn, tokenIn, pivotIn, cellIn, tableIn}

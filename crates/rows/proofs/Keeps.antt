@@ -10,13 +10,13 @@ use lib.IntN.{ℤ, pos}
 use lib.Signed.{leZ}
 use lib.ListN.{length, length-set, length-replicate, getD-replicate}
 use lib.Seq.{getD-set-same, getD-set-other}
-use Rattle.fields.specs.Tests.{within, withinℤ}
+use Rattle.laws.specs.Tests.{within, withinℤ}
 use Rattle.fields.specs.Numbers.{slots, firstLine, lastLine, none, isNone, limitOf, topOf}
 use Rattle.fields.specs.Rules.{xOk, lineOk, indexOk, choosingOk, tokenOk, pivotOk, mayHold, cellOk}
 use Rattle.table.specs.WellFormed.{cellOf, cellRule}
 use Rattle.fields.specs.Refusals.{noRefusal, aboveTokenLimit}
 use Rattle.table.specs.declared.Row.{Row}
-use Rattle.fields.proofs.Tests.{by-test, and-both, and-halves, within-low, within-high, within-yes}
+use Rattle.laws.proofs.Tests.{by-test, and-both, and-halves, within-low, within-high, within-yes}
 use Rattle.table.proofs.WellFormed.{RowRules, is-none}
 use Rattle.tokens.specs.Tokens.{nextToken}
 use Rattle.tokens.specs.Answers.{isAboveLimit}

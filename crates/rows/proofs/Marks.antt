@@ -7,7 +7,7 @@ use lib.Dec.{leb, eqb}
 use lib.IntN.{ℤ}
 use Rattle.fields.specs.Refusals.{noRefusal, aboveTokenLimit}
 use Rattle.table.specs.declared.Row.{Row}
-use Rattle.fields.proofs.Tests.{by-test}
+use Rattle.laws.proofs.Tests.{by-test}
 use Rattle.tokens.specs.Tokens.{nextToken}
 use Rattle.tokens.specs.Answers.{isAboveLimit}
 use Rattle.rows.specs.Setters.{withChoosing}

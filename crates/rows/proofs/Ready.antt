@@ -4,11 +4,11 @@ use mathlib.Core.Path.{_≡_}
 use mathlib.Core.Bool.{true, _&&_}
 use borrow.Author.Tests.{le-leb, leb-true}
 use lib.Dec.{leb}
-use Rattle.fields.specs.Tests.{within}
+use Rattle.laws.specs.Tests.{within}
 use Rattle.fields.specs.Numbers.{slots, firstLine, lastLine}
 use Rattle.fields.specs.Rules.{countOk}
 use Rattle.table.specs.declared.Row.{Row}
-use Rattle.fields.proofs.Tests.{and-both, and-halves}
+use Rattle.laws.proofs.Tests.{and-both, and-halves}
 use Rattle.tokens.proofs.Answers.{is-count, count-ok}
 use Rattle.rows.specs.Ready.{Ready}
 use Rattle.rows.specs.Lines.{isReady, anyLine, advanceOf}

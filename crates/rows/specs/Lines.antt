@@ -3,7 +3,7 @@ use Prim.Native.Nat.{ℕ, _+_}
 use mathlib.Core.Bool.{Bool, cond, _&&_, _||_}
 use lib.Dec.{leb, eqb}
 use lib.IntN.{ℤ}
-use Rattle.fields.specs.Tests.{within}
+use Rattle.laws.specs.Tests.{within}
 use Rattle.fields.specs.Numbers.{slots, firstLine, lastLine, none, isNone}
 use Rattle.fields.specs.Refusals.{noRefusal, notWellFormed, aboveTokenLimit}
 use Rattle.fields.specs.Rules.{countOk}

@@ -2,7 +2,7 @@
 use Prim.Native.Nat.{ℕ, _≤_}
 use mathlib.Core.Path.{_≡_}
 use mathlib.Core.Bool.{true}
-use Rattle.fields.specs.Tests.{within}
+use Rattle.laws.specs.Tests.{within}
 use Rattle.fields.specs.Numbers.{slots, firstLine, lastLine}
 use Rattle.table.specs.declared.Row.{Row}
 use Rattle.tokens.specs.Count.{Count}

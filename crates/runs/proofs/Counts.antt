@@ -8,8 +8,8 @@ use native.Mathlib.Omega.{arith}
 use native.Mathlib.Numerals.{add-one}
 use lib.ListN.{length, getD, set, drop, length-append, length-map}
 use lib.Seq.{drop-cons, set-append-seam}
-use Rattle.table.specs.Lent.{inFront}
-use Rattle.fields.proofs.Tests.{by-test, of-choice}
+use Rattle.laws.specs.Lent.{inFront}
+use Rattle.laws.proofs.Tests.{by-test, of-choice}
 use Rattle.runs.specs.Run.{Turn, those, changed, unchanged, isEntry, movedIn, waitedIn, entriesIn, enteredIn}
 
 module _ (f : Turn → Bool) where

@@ -11,7 +11,7 @@ use lib.ListN.{length, getD, take, drop}
 use lib.Seq.{take-suc, split-at}
 use Rattle.fields.specs.Refusals.{noRefusal}
 use Rattle.table.specs.declared.Table.{Table}
-use Rattle.fields.proofs.Tests.{by-test, of-choice}
+use Rattle.laws.proofs.Tests.{by-test, of-choice}
 use Rattle.machine.specs.Step.{stepOf}
 use Rattle.machine.proofs.Steps.{step-mark}
 use Rattle.runs.specs.Run.{Turn, Course, turnOf, standsAt, begunBy, courseOf, movedIn, waitedIn}

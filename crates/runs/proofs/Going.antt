@@ -9,9 +9,9 @@ use lib.Seq.{take-all}
 use Rattle.fields.specs.Refusals.{noRefusal}
 use Rattle.table.specs.WellFormed.{wellFormed}
 use Rattle.table.specs.Sized.{Sized}
-use Rattle.table.specs.Lent.{inFront}
+use Rattle.laws.specs.Lent.{inFront}
 use Rattle.table.specs.declared.Table.{Table}
-use Rattle.fields.proofs.Tests.{by-test}
+use Rattle.laws.proofs.Tests.{by-test}
 use Rattle.machine.specs.Step.{stepOf}
 use Rattle.machine.proofs.Steps.{step-mark, step-well-formed, step-sized}
 use Rattle.runs.specs.Run.{Turn, turnOf, courseOf, those, isEntry, movedIn, waitedIn, entriesIn, enteredIn, waitingOf, answerOf}

@@ -11,9 +11,9 @@ use Rattle.fields.specs.Numbers.{scheduleLimit}
 use Rattle.fields.specs.Refusals.{noRefusal}
 use Rattle.table.specs.WellFormed.{wellFormed}
 use Rattle.table.specs.Sized.{Sized}
-use Rattle.table.specs.Lent.{inFront}
+use Rattle.laws.specs.Lent.{inFront}
 use Rattle.table.specs.declared.Table.{Table}
-use Rattle.fields.proofs.Tests.{by-test}
+use Rattle.laws.proofs.Tests.{by-test}
 use Rattle.machine.specs.Step.{stepOf}
 use Rattle.machine.proofs.Steps.{step-well-formed, step-sized}
 use Rattle.runs.specs.Run.{Course, begunBy, courseOf, enteredIn, waitingOf, answerOf, runRefusal, runOf, bufferOf}

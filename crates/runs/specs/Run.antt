@@ -4,11 +4,11 @@ use mathlib.Core.Bool.{Bool, cond}
 use mathlib.Core.List.{List, [], _∷_, _++_, map}
 use lib.Dec.{leb, eqb}
 use lib.ListN.{length}
-use Rattle.fields.specs.Tests.{within, howMany}
+use Rattle.laws.specs.Tests.{within, howMany}
 use Rattle.fields.specs.Numbers.{slots, lineOfEntry, scheduleLimit}
 use Rattle.fields.specs.Refusals.{noRefusal, notWellFormed, scheduleTooLong, entriesTooShort}
 use Rattle.table.specs.WellFormed.{rowOf, wellFormed}
-use Rattle.table.specs.Lent.{inFront}
+use Rattle.laws.specs.Lent.{inFront}
 use Rattle.table.specs.declared.Table.{Table}
 use Rattle.machine.specs.Step.{stepOf}
 use Rattle.runs.specs.declared.Ran.{Ran}

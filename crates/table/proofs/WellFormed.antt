@@ -8,7 +8,7 @@ use lib.Dec.{leb, eqb}
 use lib.IntN.{ℤ, pos, negsuc}
 use lib.ListN.{length, getD, length-replicate, getD-replicate}
 use lib.Seq.{ext-getD}
-use Rattle.fields.specs.Tests.{within, withinℤ}
+use Rattle.laws.specs.Tests.{within, withinℤ}
 use Rattle.fields.specs.Numbers.{slots, firstLine, lastLine, none, isNone, unbounded, limitOf, topOf}
 use Rattle.fields.specs.Rules.{algorithmOk, countOk, xOk, lineOk, indexOk, choosingOk, tokenOk, pivotOk, mayHold, cellOk}
 use Rattle.table.specs.WellFormed.{rowOf, cellOf, noRow, cellRule, cellsOk, rowOk, rowRule, rowsOk, wellFormed}
@@ -17,7 +17,7 @@ use Rattle.table.specs.Sized.{Sized}
 use Rattle.table.specs.declared.Row.{Row}
 use Rattle.table.specs.declared.Table.{Table}
 use Rattle.table.specs.declared.Started.{Started}
-use Rattle.fields.proofs.Tests.{by-test, and-both, and-halves, within-low, within-high, within-yes, every-at, every-all}
+use Rattle.laws.proofs.Tests.{by-test, and-both, and-halves, within-low, within-high, within-yes, every-at, every-all}
 
 -- the rules of row i, each by its name
 pub record RowRules (top : ℤ) (n i : ℕ) (r : Row) : Type 0 where

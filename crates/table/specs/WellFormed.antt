@@ -4,7 +4,7 @@ use mathlib.Core.Bool.{Bool, _&&_}
 use mathlib.Core.List.{[]}
 use lib.IntN.{ℤ, pos}
 use lib.ListN.{getD}
-use Rattle.fields.specs.Tests.{every}
+use Rattle.laws.specs.Tests.{every}
 use Rattle.fields.specs.Numbers.{slots, topOf}
 use Rattle.fields.specs.Rules.{algorithmOk, countOk, xOk, lineOk, indexOk, choosingOk, tokenOk, pivotOk, mayHold, cellOk}
 use Rattle.table.specs.declared.Row.{Row}

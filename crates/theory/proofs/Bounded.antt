@@ -6,7 +6,7 @@ use native.Mathlib.Nat.{zero-mod}
 use native.Mathlib.Omega.{arith}
 use borrow.Author.Tests.{ne-eqb}
 use lib.Dec.{eqb}
-use Rattle.fields.proofs.Tests.{of-choice}
+use Rattle.laws.proofs.Tests.{of-choice}
 use Rattle.theory.proofs.Counting.{Process}
 use Rattle.theory.proofs.Tokens.{Token, none, held, IsHeld, modulus, reduced, nextUnbounded, nextBounded, unboundedMachine}
 use Rattle.theory.proofs.Tokens.{boundedMachine}

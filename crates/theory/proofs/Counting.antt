@@ -5,7 +5,7 @@ use mathlib.Core.Bool.{cond}
 use native.Mathlib.Omega.{arith}
 use borrow.Author.Tests.{leb-true, leb-false, lt-ltb, le-ltb, eqb-true, eqb-false}
 use lib.Dec.{leb, ltb, eqb}
-use Rattle.fields.proofs.Tests.{by-test, up-to-next}
+use Rattle.laws.proofs.Tests.{by-test, up-to-next}
 
 -- i is one of the processes 1 to n
 pub record Process (n i : ℕ) : Type 0 where

@@ -5,7 +5,7 @@ use mathlib.Core.Path.{_≡_, refl, sym, ap, _∙_}
 use native.Mathlib.Nat.{mod-lt, mod-eq-of-lt, add-mul-mod-self-right, div-add-mod'}
 use native.Mathlib.Omega.{arith}
 use borrow.Author.Tests.{le-leb, lt-leb, lt-ltb, le-ltb, eq-eqb, ne-eqb}
-use Rattle.fields.proofs.Tests.{within-yes}
+use Rattle.laws.proofs.Tests.{within-yes}
 use Rattle.theory.proofs.Counting.{Process, earlier, last, by-comparison, largest}
 use Rattle.theory.proofs.Tokens.{Token, held, number-of-held, modulus, reduced, shift, shifted, ahead, nextUnbounded, nextBounded}
 use Rattle.theory.proofs.Tokens.{beforeUnbounded, beforeBounded}

@@ -6,7 +6,7 @@ use mathlib.Core.Bool.{Bool, _&&_, _||_}
 use mathlib.Core.Path.{_≡_}
 use native.Mathlib.Omega.{arith}
 use lib.Dec.{ltb, eqb}
-use Rattle.fields.specs.Tests.{within}
+use Rattle.laws.specs.Tests.{within}
 use Rattle.theory.proofs.Counting.{largest}
 
 -- In this proof a token is carried as the number one above it, and none as 0, because the prover's arithmetic reads natural numbers and

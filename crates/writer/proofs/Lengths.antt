@@ -1,31 +1,17 @@
--- The lengths of the records, and of pieces one after another.
-use Prim.Native.Nat.{ℕ, zero, suc, _+_, _*_}
+-- The lengths of the records.
+use Prim.Native.Nat.{ℕ, _+_}
 use mathlib.Core.Path.{_≡_, refl, _∙_}
-use mathlib.Core.List.{List, _++_}
-use native.Mathlib.Omega.{arith}
-use native.Mathlib.Nat.{mul-suc}
-use native.Mathlib.Numerals.{add-one}
 use lib.IntN.{ℤ}
 use lib.ListN.{length, length-append}
+use Rattle.laws.specs.InTurn.{inTurn}
+use Rattle.laws.proofs.InTurn.{turn-length}
 use Rattle.fields.specs.Numbers.{slots}
 use Rattle.table.specs.WellFormed.{rowOf, cellOf}
 use Rattle.table.specs.declared.Row.{Row}
 use Rattle.table.specs.declared.Table.{Table}
 use Rattle.writer.specs.FourBytes.{fourDigits, fourBytes}
-use Rattle.writer.specs.Form.{inTurn, headRecord, rowRecord, cellsRecord, recordsOf, encode, headLength, rowLength, cellsLength}
+use Rattle.writer.specs.Form.{headRecord, rowRecord, cellsRecord, recordsOf, encode, headLength, rowLength, cellsLength}
 use Rattle.writer.specs.Form.{formLength}
-
--- one piece more
-pub turn-more : {A : Type 0} (f : ℕ → List A) (k : ℕ) → inTurn f (k + 1) ≡ inTurn f k ++ f (k + 1)
-unfolding inTurn
-turn-more f k = rw (add-one k)
-
--- pieces of one length
-module _ {A : Type 0} (f : ℕ → List A) (m : ℕ) (each : (i : ℕ) → length (f i) ≡ m) where
-  pub turn-length : (k : ℕ) → length (inTurn f k) ≡ m * k
-  unfolding inTurn
-  turn-length zero = omega arith
-  turn-length (suc k) = length-append (inTurn f k) (f (suc k)) ∙ rw (turn-length k, each (suc k), mul-suc m k)
 
 pub four-length : (v : ℤ) → length (fourBytes v) ≡ 4
 unfolding fourBytes fourDigits

@@ -1,16 +1,12 @@
 -- Document 01, "Stored form": the records of a table, and its form.
-use Prim.Native.Nat.{ℕ, zero, suc, _+_, _*_}
+use Prim.Native.Nat.{ℕ, _+_, _*_}
 use mathlib.Core.List.{List, [], _∷_, _++_}
+use Rattle.laws.specs.InTurn.{inTurn}
 use Rattle.fields.specs.Numbers.{slots}
 use Rattle.table.specs.WellFormed.{rowOf, cellOf}
 use Rattle.table.specs.declared.Row.{Row}
 use Rattle.table.specs.declared.Table.{Table}
 use Rattle.writer.specs.FourBytes.{fourBytes}
-
--- the pieces 1 to k, one after another
-unfoldable pub inTurn : {A : Type 0} → (ℕ → List A) → ℕ → List A
-inTurn f zero = []
-inTurn f (suc k) = inTurn f k ++ f (suc k)
 
 -- "One byte of kind, then a body whose length the kind fixes."
 abbrev pub headKind : ℕ

@@ -6,7 +6,7 @@ use lib.Dec.{leb, eqb}
 use lib.ListN.{length}
 use Rattle.fields.specs.Refusals.{noRefusal, notWellFormed, bufferTooShort}
 use Rattle.table.specs.WellFormed.{wellFormed}
-use Rattle.table.specs.Lent.{inFront}
+use Rattle.laws.specs.Lent.{inFront}
 use Rattle.table.specs.declared.Table.{Table}
 use Rattle.writer.specs.Form.{encode, formLength}
 use Rattle.writer.specs.declared.Wrote.{Wrote}

@@ -1,5 +1,5 @@
 -- `put_bakery` meets its contract.
-use Rattle.table.proofs.Writes.{and-then, room-first, room-next}
+use Rattle.laws.proofs.Writes.{and-then, room-first, room-next}
 use Rattle.listing.specs.Text.{ascii, numbered, numberedLine}
 use Rattle.listing.specs.Listing.{bakeryLine}
 use borrow.Author.Needs.{needs}

@@ -2,8 +2,8 @@
 use Prim.Native.Nat.{ℕ, _+_, _≤_}
 use mathlib.Core.List.{List, _++_}
 use lib.ListN.{length}
-use Rattle.table.specs.Lent.{Written}
-use Rattle.table.proofs.Writes.{and-then, room-first, room-next}
+use Rattle.laws.specs.Lent.{Written}
+use Rattle.laws.proofs.Writes.{and-then, room-first, room-next}
 use Rattle.runs.specs.declared.Ran.{Ran}
 use Rattle.listing.specs.Text.{ascii, numbered, numberedLine}
 use Rattle.listing.specs.Listing.{countsLine}

@@ -3,8 +3,8 @@ use Prim.Native.Nat.{_+_, _-_, _≤_}
 use mathlib.Core.Path.{refl}
 use lib.ListN.{length, take}
 use lib.Seq.{take-all}
-use Rattle.table.specs.Lent.{Written}
-use Rattle.table.proofs.Writes.{and-then, room-next}
+use Rattle.laws.specs.Lent.{Written}
+use Rattle.laws.proofs.Writes.{and-then, room-next}
 use Rattle.listing.specs.Listing.{entryLines}
 use Rattle.listing.proofs.EntryLines.{lines-more, lines-room}
 use borrow.Author.Needs.{needs}

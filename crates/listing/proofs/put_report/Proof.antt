@@ -7,8 +7,8 @@ use lib.Seq.{take-at}
 use Rattle.fields.specs.Numbers.{scheduleLimit}
 use Rattle.fields.specs.Refusals.{noRefusal}
 use Rattle.table.proofs.WellFormed.{table-rules}
-use Rattle.table.specs.Lent.{inFront}
-use Rattle.table.proofs.Writes.{and-then}
+use Rattle.laws.specs.Lent.{inFront}
+use Rattle.laws.proofs.Writes.{and-then}
 use Rattle.runs.specs.Run.{Course, courseOf, enteredIn, entriesIn, answerOf, runRefusal}
 use Rattle.runs.specs.declared.Ran.{Ran}
 use Rattle.runs.proofs.Counts.{entered-length}

@@ -1,5 +1,5 @@
 -- `advance` meets its contract.
-use Rattle.fields.proofs.Tests.{passed, failed}
+use Rattle.laws.proofs.Tests.{passed, failed}
 use Rattle.rows.specs.Lines.{advanceOf}
 use Rattle.rows.proofs.Ready.{is-ready}
 use borrow.Author.Needs.{needs}

@@ -6,11 +6,11 @@ use mir.Facts.{toZ-ofZ}
 use mir.Syntax.{w32}
 use mir.Val.{SFits}
 use lib.ListN.{length, getD}
-use Rattle.fields.specs.Tests.{within}
+use Rattle.laws.specs.Tests.{within}
 use Rattle.fields.specs.Numbers.{slots}
 use Rattle.fields.specs.Refusals.{noRefusal, badProcessNumber}
 use Rattle.table.specs.WellFormed.{rowOf}
-use Rattle.fields.proofs.Tests.{passed, failed}
+use Rattle.laws.proofs.Tests.{passed, failed}
 use Rattle.table.proofs.Held.{held-sized}
 use Rattle.rows.specs.Ready.{Ready}
 use Rattle.rows.proofs.Ready.{ready-advance}

@@ -1,6 +1,6 @@
 -- `run` meets its contract: each `return` is the case of `runRefusal` that the tests before it lead to.
 use borrow.Author.Tests.{le-leb, lt-leb}
-use Rattle.fields.proofs.Tests.{passed, failed}
+use Rattle.laws.proofs.Tests.{passed, failed}
 use Rattle.runs.specs.Run.{runRefusal, runOf, bufferOf}
 use borrow.Author.Needs.{needs}
 use Rattle.runs.proofs.run.Statement.{statement}

@@ -2,8 +2,8 @@
 use Prim.Native.Nat.{_+_, _-_, _≤_}
 use mathlib.Core.Path.{_≡_, refl}
 use Rattle.fields.specs.Numbers.{slots}
-use Rattle.fields.specs.Tests.{howMany}
-use Rattle.fields.proofs.Tests.{many-more}
+use Rattle.laws.specs.Tests.{howMany}
+use Rattle.laws.proofs.Tests.{many-more}
 use Rattle.runs.specs.Run.{isWaiting}
 use borrow.Author.Needs.{needs}
 use native.Mathlib.Omega.{arith}

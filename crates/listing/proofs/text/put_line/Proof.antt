@@ -1,6 +1,6 @@
 -- `put_line` meets its contract.
 use mathlib.Core.List.{_++_}
-use Rattle.table.proofs.Writes.{and-then, room-first, room-next}
+use Rattle.laws.proofs.Writes.{and-then, room-first, room-next}
 use Rattle.listing.specs.Text.{decimal, lineFeed}
 use Rattle.listing.proofs.text.put_line.Statement.{statement}
 use Rattle.listing.proofs.text.put_line.Tie as tie

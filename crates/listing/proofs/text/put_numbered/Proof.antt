@@ -1,5 +1,5 @@
 -- `put_numbered` meets its contract.
-use Rattle.table.proofs.Writes.{and-then, room-first, room-next}
+use Rattle.laws.proofs.Writes.{and-then, room-first, room-next}
 use Rattle.listing.specs.Text.{decimal}
 use Rattle.listing.proofs.text.put_numbered.Statement.{statement}
 use Rattle.listing.proofs.text.put_numbered.Tie as tie

@@ -5,7 +5,7 @@ use lib.ListN.{length, take}
 use lib.Seq.{sets, take-all}
 use borrow.Author.Needs.{needs}
 use native.Mathlib.Omega.{arith}
-use Rattle.table.proofs.Writes.{sets-more}
+use Rattle.laws.proofs.Writes.{sets-more}
 use Rattle.listing.proofs.text.put_word.Statement.{statement}
 use Rattle.listing.proofs.text.put_word.Tie as tie
 

@@ -6,7 +6,7 @@ use native.Mathlib.Omega.{arith}
 use borrow.Author.Tests.{le-leb, lt-leb, leb-true}
 use lib.ListN.{length}
 use Rattle.fields.specs.Numbers.{slots}
-use Rattle.fields.proofs.Tests.{within-high}
+use Rattle.laws.proofs.Tests.{within-high}
 use Rattle.writer.specs.Form.{headLength, formLength}
 use Rattle.reader.specs.Fields.{countIn}
 use Rattle.reader.specs.Reading.{firstFault, startChecks, headChecks, lengthChecks, checksOf}

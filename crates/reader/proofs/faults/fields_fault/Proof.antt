@@ -3,7 +3,7 @@ use Prim.Native.Nat.{ℕ}
 use mathlib.Core.Path.{_≡_, sym, _∙_}
 use borrow.Author.Needs.{needs}
 use lib.ListN.{drop}
-use Rattle.fields.proofs.Tests.{passed, failed}
+use Rattle.laws.proofs.Tests.{passed, failed}
 use Rattle.reader.specs.Reading.{firstFault, fieldsChecks}
 use Rattle.reader.proofs.faults.fields_fault.Statement.{statement}
 use Rattle.reader.proofs.faults.fields_fault.Tie as tie

@@ -4,7 +4,7 @@ use mathlib.Core.Path.{_≡_, sym, _∙_}
 use mathlib.Core.List.{List}
 use lib.ListN.{drop}
 use borrow.Author.Tests.{eq-eqb, ne-eqb}
-use Rattle.fields.proofs.Tests.{passed, failed}
+use Rattle.laws.proofs.Tests.{passed, failed}
 use Rattle.reader.specs.Reading.{firstFault, headChecks}
 use borrow.Author.Needs.{needs}
 use Rattle.reader.proofs.faults.head_fault.Statement.{statement}

@@ -6,8 +6,9 @@ use mathlib.Core.List.{List}
 use native.Mathlib.Omega.{arith}
 use borrow.Author.Needs.{needs}
 use Rattle.fields.specs.Numbers.{slots}
-use Rattle.fields.proofs.Tests.{passed, failed}
-use Rattle.writer.specs.Form.{inTurn, cellsKind}
+use Rattle.laws.proofs.Tests.{passed, failed}
+use Rattle.laws.specs.InTurn.{inTurn}
+use Rattle.writer.specs.Form.{cellsKind}
 use Rattle.reader.specs.Fields.{cellsPlace, cellPlace, countIn}
 use Rattle.reader.specs.Reading.{firstFault, openingChecks, rowChecks, cellKeeps, cellCheck, cellsChecks, recordsChecks}
 use Rattle.reader.specs.declared.Fault.{Fault}

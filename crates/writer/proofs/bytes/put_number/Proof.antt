@@ -1,6 +1,6 @@
 -- `put_number` meets its contract.
 use borrow.Author.Needs.{needs}
-use Rattle.table.proofs.Writes.{and-then}
+use Rattle.laws.proofs.Writes.{and-then}
 use Rattle.writer.specs.FourBytes.{fourBytes, fourDigits}
 use Rattle.writer.proofs.bytes.put_number.Statement.{statement}
 use Rattle.writer.proofs.bytes.put_number.Tie as tie

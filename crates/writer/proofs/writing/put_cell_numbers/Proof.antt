@@ -9,11 +9,12 @@ use mir.Syntax.{w32}
 use mir.Val.{SFits}
 use mir.Facts.{toZ-ofZ}
 use Rattle.fields.specs.Numbers.{slots}
-use Rattle.table.specs.Lent.{Written}
-use Rattle.table.proofs.Writes.{and-then, same-size}
+use Rattle.laws.specs.Lent.{Written}
+use Rattle.laws.proofs.Writes.{and-then, same-size}
 use Rattle.writer.specs.FourBytes.{fourBytes}
-use Rattle.writer.specs.Form.{inTurn}
-use Rattle.writer.proofs.Lengths.{turn-more, turn-length, four-length}
+use Rattle.laws.specs.InTurn.{inTurn}
+use Rattle.laws.proofs.InTurn.{turn-more, turn-length}
+use Rattle.writer.proofs.Lengths.{four-length}
 use borrow.Author.Needs.{needs}
 use Rattle.writer.proofs.writing.put_cell_numbers.Statement.{statement}
 use Rattle.writer.proofs.writing.put_cell_numbers.Tie as tie

@@ -1,5 +1,5 @@
 -- `put_cells` meets its contract.
-use Rattle.table.proofs.Writes.{and-then}
+use Rattle.laws.proofs.Writes.{and-then}
 use Rattle.writer.specs.Form.{cellsRecord}
 use borrow.Author.Needs.{needs}
 use Rattle.writer.proofs.writing.put_cells.Statement.{statement}

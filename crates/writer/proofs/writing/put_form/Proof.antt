@@ -2,10 +2,12 @@
 use Prim.Native.Nat.{_+_, _-_, _≤_}
 use mathlib.Core.Path.{_≡_, refl}
 use native.Mathlib.Omega.{arith}
-use Rattle.table.specs.Lent.{Written}
-use Rattle.table.proofs.Writes.{and-then, same-size}
-use Rattle.writer.specs.Form.{inTurn, recordsOf, encode, rowLength, cellsLength}
-use Rattle.writer.proofs.Lengths.{turn-more, turn-length, head-length, records-length}
+use Rattle.laws.specs.Lent.{Written}
+use Rattle.laws.proofs.Writes.{and-then, same-size}
+use Rattle.laws.specs.InTurn.{inTurn}
+use Rattle.writer.specs.Form.{recordsOf, encode, rowLength, cellsLength}
+use Rattle.laws.proofs.InTurn.{turn-more, turn-length}
+use Rattle.writer.proofs.Lengths.{head-length, records-length}
 use borrow.Author.Needs.{needs}
 use Rattle.writer.proofs.writing.put_form.Statement.{statement}
 use Rattle.writer.proofs.writing.put_form.Tie as tie

@@ -1,5 +1,5 @@
 -- `put_head` meets its contract.
-use Rattle.table.proofs.Writes.{and-then}
+use Rattle.laws.proofs.Writes.{and-then}
 use Rattle.writer.specs.Form.{headRecord}
 use borrow.Author.Needs.{needs}
 use Rattle.writer.proofs.writing.put_head.Statement.{statement}

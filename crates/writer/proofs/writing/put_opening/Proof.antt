@@ -1,5 +1,5 @@
 -- `put_opening` meets its contract.
-use Rattle.table.proofs.Writes.{and-then}
+use Rattle.laws.proofs.Writes.{and-then}
 use borrow.Author.Needs.{needs}
 use Rattle.writer.proofs.writing.put_opening.Statement.{statement}
 use Rattle.writer.proofs.writing.put_opening.Tie as tie

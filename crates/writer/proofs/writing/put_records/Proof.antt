@@ -4,7 +4,7 @@ use mathlib.Core.Path.{_≡_}
 use native.Mathlib.Omega.{arith}
 use lib.ListN.{getD}
 use Rattle.table.specs.WellFormed.{noRow}
-use Rattle.table.proofs.Writes.{and-then, same-size}
+use Rattle.laws.proofs.Writes.{and-then, same-size}
 use Rattle.writer.specs.Form.{recordsOf}
 use Rattle.writer.proofs.Lengths.{row-length}
 use borrow.Author.Needs.{needs}

@@ -1,6 +1,6 @@
 -- `put_row` meets its contract.
 use native.Mathlib.Omega.{arith}
-use Rattle.table.proofs.Writes.{and-then, same-size}
+use Rattle.laws.proofs.Writes.{and-then, same-size}
 use Rattle.writer.specs.FourBytes.{fourBytes, fourDigits}
 use Rattle.writer.specs.Form.{rowRecord}
 use borrow.Author.Needs.{needs}

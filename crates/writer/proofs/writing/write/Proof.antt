@@ -1,5 +1,5 @@
 -- `write` meets its contract.
-use Rattle.fields.proofs.Tests.{passed, failed}
+use Rattle.laws.proofs.Tests.{passed, failed}
 use Rattle.table.proofs.WellFormed.{table-rules}
 use Rattle.writer.specs.Writing.{writeOf, bufferOf}
 use Rattle.writer.proofs.WriteAnswers.{refused-formed}

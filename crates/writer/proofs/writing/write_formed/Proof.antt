@@ -3,7 +3,7 @@ use Prim.Native.Nat.{_≤_}
 use mathlib.Core.Path.{_≡_, sym, _∙_}
 use native.Mathlib.Omega.{arith}
 use lib.ListN.{length}
-use Rattle.table.proofs.Writes.{in-front}
+use Rattle.laws.proofs.Writes.{in-front}
 use Rattle.writer.specs.Form.{formLength}
 use Rattle.writer.specs.Writing.{writeOf, bufferOf}
 use Rattle.writer.proofs.Lengths.{encode-length}

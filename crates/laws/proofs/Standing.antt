@@ -7,9 +7,9 @@ use native.Mathlib.Nat.{le-of-suc-le-suc}
 use native.Mathlib.Decide.{decLt}
 use lib.ListN.{length, getD, List·getD-append, length-append}
 use lib.Seq.{ext-getD, getD-append-add}
-use Rattle.fields.proofs.Tests.{up-to-next}
-use Rattle.writer.specs.Form.{inTurn}
-use Rattle.writer.proofs.Lengths.{turn-length}
+use Rattle.laws.proofs.Tests.{up-to-next}
+use Rattle.laws.specs.InTurn.{inTurn}
+use Rattle.laws.proofs.InTurn.{turn-length}
 
 -- each element of the piece is in s, at its place; d is what a list gives past its end
 pub record Stands {A : Type 0} (d : A) (s : List A) (at : ℕ) (piece : List A) : Type 0 where

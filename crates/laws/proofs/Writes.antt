@@ -6,7 +6,7 @@ use native.Mathlib.Omega.{arith}
 use native.Mathlib.Numerals.{add-one}
 use lib.ListN.{length, getD, take, set, length-append}
 use lib.Seq.{sets, length-sets, sets-eq, take-suc, length-take-le}
-use Rattle.table.specs.Lent.{inFront, Written}
+use Rattle.laws.specs.Lent.{inFront, Written}
 
 module _ {A : Type 0} where
   -- one piece after another is the two as one

@@ -1,0 +1,3 @@
+pub mod Tests
+pub mod InTurn
+pub mod Lent
