@@ -22,7 +22,8 @@ use Rattle.table.proofs.WellFormed.{fresh-well-formed}
 use Rattle.rows.specs.Setters.{withLine, withIndex, withToken}
 use Rattle.rows.specs.Lines.{line4, lineStep, anyLine}
 use Rattle.machine.specs.Step.{takenOf, stepOf}
-use Rattle.runs.specs.Run.{Course, courseOf, those, movedIn, waitedIn, entriesIn, enteredIn, answerOf, runRefusal, runOf, bufferOf}
+use Rattle.courses.specs.Course.{Course, courseOn, those}
+use Rattle.runs.specs.Run.{enteredIn, answerOf, runRefusal, runOf, bufferOf}
 use Rattle.machine.specs.declared.Stepped.{Stepped}
 use Rattle.runs.specs.declared.Ran.{Ran}
 use Rattle.machine.proofs.Steps.{step-taken}
@@ -48,7 +49,7 @@ module _ (algorithm n : ℕ) (schedule : List ℕ) (known : algorithmOk algorith
       ≡ inFront (enteredIn (plain (freshTable algorithm n) schedule .turns)) (lentFor schedule)
   fresh-entries =
       run-buffer _ _ _ accepted
-      ∙ ap (λ (c : Course). inFront (enteredIn (c .turns)) (lentFor schedule)) (fresh-plain algorithm n schedule known count each)
+      ∙ ap (λ (c : Course Table). inFront (enteredIn (c .turns)) (lentFor schedule)) (fresh-plain algorithm n schedule known count each)
 
 alone : cases.alone
 unfolding plainly
@@ -176,7 +177,7 @@ last-token n ok =
         step-taken (picking pivot n) 1 formed (le-leb 1 n some)
 
 empty-schedule : onBoth (λ algorithm. forEachCount (cases.emptySchedule algorithm))
-unfolding howMany courseOf those movedIn waitedIn entriesIn runRefusal runOf
+unfolding howMany courseOn those runRefusal runOf
 empty-schedule = (empty unbounded refl, empty bounded refl)
   where
     empty : (algorithm : ℕ) → algorithmOk algorithm ≡ true → forEachCount (cases.emptySchedule algorithm)

@@ -1,12 +1,10 @@
 -- How runs are computed: what the definitions unfold to, and a course from a fresh table without the tests of its tables.
 use Prim.Native.Nat.{ℕ}
 use mathlib.Core.Path.{_≡_, refl}
-use mathlib.Core.Bool.{Bool, true, cond, _&&_}
+use mathlib.Core.Bool.{Bool, true, _&&_}
 use mathlib.Core.List.{List, [], _∷_, flatten}
-use lib.Dec.{eqb}
 use Rattle.laws.specs.Tests.{within, every, howMany}
 use Rattle.fields.specs.Numbers.{limitOf}
-use Rattle.fields.specs.Refusals.{noRefusal}
 use Rattle.fields.specs.Rules.{algorithmOk, countOk, lineOk, indexOk, choosingOk, tokenOk, pivotOk, mayHold, cellOk}
 use Rattle.table.specs.WellFormed.{rowOf, cellRule, cellsOk, rowOk, rowRule, rowsOk, wellFormed}
 use Rattle.table.specs.Fresh.{freshTable}
@@ -17,8 +15,8 @@ use Rattle.table.proofs.WellFormed.{fresh-well-formed, fresh-sized}
 use Rattle.tokens.specs.Tokens.{remainder, largest, nextUb, shifted, shiftedCell, nextB, beforeUb, beforeB, nextToken, goesBefore}
 use Rattle.rows.specs.Lines.{nextOther, goesOn, line2, line4, line5, line6, line7, lineStep, anyLine}
 use Rattle.machine.specs.Step.{takenOf, stepOf}
-use Rattle.runs.specs.Run.{Turn, Course, standsAt, begunBy, courseOf, those, movedIn, waitedIn, entriesIn, enteredIn, runRefusal, runOf}
-use Rattle.runs.specs.Run.{bufferOf}
+use Rattle.courses.specs.Course.{Machine, Course, courseOn, those}
+use Rattle.runs.specs.Run.{courseOf, runRefusal, runOf, bufferOf}
 use Rattle.machine.proofs.Steps.{step-taken, step-machine, step-well-formed, step-sized}
 
 -- whether each byte is the number of one of n processes
@@ -26,17 +24,22 @@ unfoldable pub numbers : ℕ → List ℕ → Bool
 numbers n [] = true
 numbers n (i ∷ later) = within 1 n i && numbers n later
 
+-- the machine whose steps test neither the table nor the process number
+abbrev untested : Machine Table
+untested = record {
+  after = λ t i. takenOf t i .table;
+  mark = λ t i. takenOf t i .mark;
+  stop = λ t i. takenOf t i .stop;
+  line = λ t i. rowOf t i .line;
+}
+
 -- the course of such bytes from a well-formed table: it stays well formed, so that no step needs to test it
-unfoldable pub plain : Table → List ℕ → Course
-plain t [] = standsAt t noRefusal
-plain t (i ∷ later) =
-    let s = takenOf t i in
-    let turn : Turn = record { process = i; line = rowOf t i .line; mark = s .mark } in
-    cond (eqb (s .stop) noRefusal) (begunBy (turn ∷ []) (plain (s .table) later)) (standsAt t (s .stop))
+abbrev pub plain : Table → List ℕ → Course Table
+plain = courseOn untested
 
 is-plain : (t : Table) (schedule : List ℕ) → wellFormed t ≡ true → Sized t → numbers (t .n) schedule ≡ true
     → courseOf t schedule ≡ plain t schedule
-unfolding numbers plain courseOf
+unfolding numbers courseOn
 is-plain t [] formed sized each = refl
 is-plain t (i ∷ later) formed sized each =
     let halves = and-halves (within 1 (t .n) i) (numbers (t .n) later) each in
@@ -71,14 +74,14 @@ steps = tt
 
 -- what is counted of a course
 counts : Unit {0}
-unfolding those movedIn waitedIn entriesIn enteredIn howMany
+unfolding those howMany
 counts = tt
 
 unfoldable pub runs : Unit {0}
-unfolding steps counts courseOf runRefusal runOf bufferOf
+unfolding steps counts courseOn runRefusal runOf bufferOf
 runs = tt
 
 -- and where it is a plain one
 unfoldable pub plainly : Unit {0}
-unfolding taken counts flatten numbers plain
+unfolding taken counts flatten numbers courseOn
 plainly = tt

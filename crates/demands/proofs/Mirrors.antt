@@ -3,19 +3,17 @@
 use Prim.Native.Nat.{ℕ, suc, _-_, _≤_}
 use mathlib.Core.Path.{_≡_, refl, sym, ap, subst, _∙_}
 use mathlib.Core.Bool.{Bool, true, cond}
-use mathlib.Core.List.{List, [], _∷_}
+use mathlib.Core.List.{List}
 use native.Mathlib.Omega.{arith}
-use borrow.Author.Tests.{eqb-true}
-use lib.Dec.{eqb}
 use Rattle.fields.specs.Numbers.{bounded}
 use Rattle.fields.specs.Refusals.{noRefusal}
 use Rattle.fields.specs.Rules.{countOk}
 use Rattle.table.specs.Fresh.{freshTable}
 use Rattle.table.specs.declared.Table.{Table}
-use Rattle.laws.proofs.Tests.{by-test}
 use Rattle.machine.specs.Step.{stepOf}
 use Rattle.machine.proofs.Steps.{step-process}
-use Rattle.runs.specs.Run.{Course, courseOf}
+use Rattle.courses.proofs.Courses.{Keeps, course-keeps}
+use Rattle.runs.specs.Run.{tables, courseOf}
 use Rattle.theory.proofs.Counting.{Process}
 use Rattle.theory.proofs.Tokens.{unboundedMachine}
 use Rattle.theory.proofs.Model.{State, fresh, moves, step}
@@ -76,17 +74,15 @@ pub record Mirror (n : ℕ) (b : Table) : Type 0 where
   pub state : State
   pub mirrors : Mirrors n b state
 
--- and still does after every schedule
-pub mirror-course : (n : ℕ) (b : Table) (schedule : List ℕ) → Mirror n b → Mirror n (courseOf b schedule .table)
-unfolding courseOf
-mirror-course n b [] m = m
-mirror-course n b (i ∷ later) m =
-    by-test (λ (c : Course). Mirror n (c .table)) (eqb (stepOf b i .stop) noRefusal)
-    (λ t.
-    let (formed, low, high) = step-process b i (eqb-true (stepOf b i .stop) noRefusal t) in
-    mirror-course n (stepOf b i .table) later
-    (record {
+-- a step that is taken keeps it so,
+mirror-keeps : (n : ℕ) → Keeps tables (Mirror n)
+mirror-keeps n b i taken m =
+    let (formed, low, high) = step-process b i taken in
+    record {
       state = step (n - 1) (unboundedMachine (n - 1)) (m .state) i;
       mirrors = mirror-step n b (m .state) (m .mirrors) i low (omega (arith, m .mirrors .table .count, high));
-    }))
-    (λ _. m)
+    }
+
+-- and so does every schedule
+pub mirror-course : (n : ℕ) (b : Table) (schedule : List ℕ) → Mirror n b → Mirror n (courseOf b schedule .table)
+mirror-course n = course-keeps tables (Mirror n) (mirror-keeps n)

@@ -27,7 +27,8 @@ use Rattle.tokens.specs.Answers.{isAboveLimit}
 use Rattle.rows.specs.Setters.{withLine, withIndex, withChoosing, withToken, withPivot}
 use Rattle.rows.specs.Lines.{moves, nextOther, goesOn, line2, line4, line5, line6, line7, lineStep, anyLine}
 use Rattle.machine.specs.Step.{seenOf, takenOf}
-use Rattle.runs.specs.Run.{Course, standsAt, courseOf, those, movedIn, waitedIn, entriesIn, answerOf}
+use Rattle.courses.specs.Course.{Course, standsAt, courseOn, those, movedIn, waitedIn}
+use Rattle.runs.specs.Run.{courseOf, entriesIn, answerOf}
 use Rattle.theory.proofs.Counting.{by-equality}
 use Rattle.demands.specs.Passage.{passageLines, movesFrom, leftBehind, passageLength, passageAnswer, PassageAlone}
 use Rattle.demands.proofs.Computed.{numbers, plain, fresh-plain}
@@ -94,7 +95,7 @@ module _ (algorithm n i : ℕ) (low : 1 ≤ i) (high : i ≤ n) (most : n ≤ sl
 
   walk : (x y : ℤ) (r w : Row) (lines : List ℕ) → anyLine algorithm n i (seenOf (standing x r) r) r ≡ moves y w
       → Walks (standing y w) lines → Walks (standing x r) (r .line ∷ lines)
-  unfolding plain
+  unfolding courseOn
   walk x y r w lines e later = rw (taken x y r w e, own x r, later)
 
   -- the token that it takes, which is not above the limit
@@ -118,7 +119,7 @@ module _ (algorithm n i : ℕ) (low : 1 ≤ i) (high : i ≤ n) (most : n ≤ sl
 
   -- lines 8 to 10
   ends : Walks (standing token freshRow) []
-  unfolding plain
+  unfolding courseOn
   ends =
       ap (λ (t : Table). standsAt t noRefusal) (all-fresh token)
       ∙ ap (λ (x : ℤ). standsAt (record { algorithm = algorithm; n = n; x = x; rows = replicate slots freshRow }) noRefusal)
@@ -235,12 +236,12 @@ lines-length n some = simp (length-append, length-replicate, looks-length) (omeg
 
 -- every step at them moves, and one of them is an entry.
 all-moved : (i : ℕ) (lines : List ℕ) → movedIn (map (movesFrom i) lines) ≡ length lines
-unfolding movedIn those
+unfolding those
 all-moved i [] = refl
 all-moved i (line ∷ lines) = ap suc (all-moved i lines)
 
 none-waited : (i : ℕ) (lines : List ℕ) → waitedIn (map (movesFrom i) lines) ≡ 0
-unfolding waitedIn those
+unfolding those
 none-waited i [] = refl
 none-waited i (line ∷ lines) = none-waited i lines
 
@@ -248,17 +249,17 @@ entriesAt : ℕ → List ℕ → ℕ
 entriesAt i lines = entriesIn (map (movesFrom i) lines)
 
 no-entry-reading : (i k : ℕ) (lines : List ℕ) → entriesAt i (replicate k 2 ++ lines) ≡ entriesAt i lines
-unfolding entriesAt entriesIn those
+unfolding entriesAt those
 no-entry-reading i zero lines = refl
 no-entry-reading i (suc k) lines = no-entry-reading i k lines
 
 no-entry-looking : (i k : ℕ) (lines : List ℕ) → entriesAt i (flatten (replicate k (6 ∷ 7 ∷ [])) ++ lines) ≡ entriesAt i lines
-unfolding entriesAt entriesIn those flatten
+unfolding entriesAt those flatten
 no-entry-looking i zero lines = refl
 no-entry-looking i (suc k) lines = no-entry-looking i k lines
 
 one-entry : (i n : ℕ) → entriesIn (map (movesFrom i) (passageLines n)) ≡ 1
-unfolding entriesAt entriesIn those
+unfolding entriesAt those
 one-entry i n =
     no-entry-reading i n (3 ∷ 4 ∷ 5 ∷ flatten (replicate (n - 1) (6 ∷ 7 ∷ [])) ++ (8 ∷ 9 ∷ 10 ∷ []))
     ∙ no-entry-looking i (n - 1) (8 ∷ 9 ∷ 10 ∷ [])
@@ -271,7 +272,7 @@ same-numbers n i (suc k) inside = and-both inside (same-numbers n i k inside)
 
 -- the whole, and what is counted of it
 module _ (algorithm n i : ℕ) (known : algorithmOk algorithm ≡ true) (count : countOk n ≡ true) (low : 1 ≤ i) (high : i ≤ n) where
-  abbrev passage : Course
+  abbrev passage : Course Table
   passage = record { turns = map (movesFrom i) (passageLines n); table = leftBehind algorithm n; stop = noRefusal }
 
   many : length (passageLines n) ≡ passageLength n
@@ -298,4 +299,4 @@ module _ (algorithm n i : ℕ) (known : algorithmOk algorithm ≡ true) (count :
 pub passage-alone : PassageAlone
 passage-alone algorithm n i known count low high =
     let course = passage-course algorithm n i known count low high in
-    (ap (λ (c : Course). c .turns) course, ap answerOf course ∙ passage-answer algorithm n i known count low high)
+    (ap (λ (c : Course Table). c .turns) course, ap answerOf course ∙ passage-answer algorithm n i known count low high)

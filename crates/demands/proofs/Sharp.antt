@@ -15,7 +15,8 @@ use Rattle.table.specs.declared.Table.{Table}
 use Rattle.laws.proofs.Tests.{up-to-next}
 use Rattle.tokens.specs.Tokens.{remainder}
 use Rattle.rows.specs.Setters.{withLine, withIndex, withChoosing, withToken}
-use Rattle.runs.specs.Run.{Course, courseOf}
+use Rattle.courses.specs.Course.{Course, courseOn}
+use Rattle.runs.specs.Run.{courseOf}
 use Rattle.theory.proofs.Counting.{largest}
 use Rattle.theory.proofs.Tokens.{shifted, nextBounded, beforeBounded}
 use Rattle.demands.specs.Agreement.{f, isRemainder, rowAgrees, rowAtAgrees, agree, meets}
@@ -33,14 +34,14 @@ second = record { algorithm = unbounded; n = 2; x = pos 1; rows = holding (pos 2
 
 is-second : after unbounded 2 secondToken ≡ second
 unfolding plainly
-is-second = ap (λ (c : Course). c .table) (fresh-plain unbounded 2 secondToken refl refl refl)
+is-second = ap (λ (c : Course Table). c .table) (fresh-plain unbounded 2 secondToken refl refl refl)
 
 accepted : courseOf (freshTable unbounded 2) secondToken .stop ≡ noRefusal
 unfolding plainly
-accepted = ap (λ (c : Course). c .stop) (fresh-plain unbounded 2 secondToken refl refl refl)
+accepted = ap (λ (c : Course Table). c .stop) (fresh-plain unbounded 2 secondToken refl refl refl)
 
 pub not-empty : NotEmpty
-unfolding courseOf f isRemainder rowAgrees rowAtAgrees every agree meets
+unfolding courseOn f isRemainder rowAgrees rowAtAgrees every agree meets
 not-empty = (accepted, ap (λ (t : Table). meets 2 t (freshTable bounded 2)) is-second)
 
 pub not-modulo-one-less : NotModuloOneLess
@@ -56,7 +57,7 @@ looking = record { algorithm = bounded; n = 2; x = pos 0; rows = row 2 ∷ row 1
 
 are-looking : after bounded 2 sevenEach ≡ looking
 unfolding plainly
-are-looking = ap (λ (c : Course). c .table) (fresh-plain bounded 2 sevenEach refl refl refl)
+are-looking = ap (λ (c : Course Table). c .table) (fresh-plain bounded 2 sevenEach refl refl refl)
 
 pub two-at-line-7 : TwoAtLine7
 unfolding howMany
@@ -72,7 +73,7 @@ three = record {
 
 is-three : threeTokens ≡ three
 unfolding plainly
-is-three = ap (λ (c : Course). c .table) (fresh-plain bounded 3 sixEach refl refl refl)
+is-three = ap (λ (c : Course Table). c .table) (fresh-plain bounded 3 sixEach refl refl refl)
 
 -- the first and the last hold theirs, and one of them is more than 1 ahead of each
 pub not-nearer : NotNearer

@@ -18,10 +18,10 @@ use Rattle.table.specs.declared.Table.{Table}
 use Rattle.laws.proofs.Tests.{by-test, and-both, many-same}
 use Rattle.machine.specs.Step.{stepOf}
 use Rattle.machine.proofs.Steps.{step-process}
-use Rattle.runs.specs.Run.{Course, turnOf, begunBy, courseOf, movedIn, waitedIn, entriesIn, enteredIn, isWaiting, waitingOf, answerOf}
-use Rattle.runs.specs.Run.{runRefusal, runOf, bufferOf}
+use Rattle.courses.specs.Course.{Course, begunBy, courseOn, movedIn, waitedIn}
+use Rattle.courses.proofs.Courses.{course-first, all-taken}
+use Rattle.runs.specs.Run.{tables, turnOf, courseOf, entriesIn, enteredIn, isWaiting, waitingOf, answerOf, runRefusal, runOf, bufferOf}
 use Rattle.runs.specs.declared.Ran.{Ran}
-use Rattle.runs.proofs.Courses.{course-first, all-taken}
 use Rattle.runs.proofs.Runs.{run-not-refused, run-answer, run-buffer}
 use Rattle.theory.proofs.Theorems.{mutual-exclusion}
 use Rattle.demands.specs.Agreement.{meets}
@@ -95,7 +95,7 @@ module _ (n : ℕ) (u b : Table) (beside : Beside n u b) where
         }
 
 -- The courses of both over the same bytes.
-record Courses (n : ℕ) (u b : Course) : Type 0 where
+record Courses (n : ℕ) (u b : Course Table) : Type 0 where
   stop : b .stop ≡ noRefusal
   turns : b .turns ≡ u .turns
   tables : Beside n (u .table) (b .table)
@@ -103,16 +103,16 @@ record Courses (n : ℕ) (u b : Course) : Type 0 where
 -- over the bytes until the unbounded machine refuses one
 courses-until : (n : ℕ) (u b : Table) (schedule : List ℕ) → Beside n u b
     → Courses n (courseOf u schedule) (courseOf b (takenIn (courseOf u schedule) schedule))
-unfolding courseOf
+unfolding courseOn
 courses-until n u b [] beside = record { stop = refl; turns = refl; tables = beside }
 courses-until n u b (i ∷ later) beside =
-    by-test (λ (c : Course). Courses n c (courseOf b (takenIn c (i ∷ later)))) (eqb (stepOf u i .stop) noRefusal)
+    by-test (λ (c : Course Table). Courses n c (courseOf b (takenIn c (i ∷ later)))) (eqb (stepOf u i .stop) noRefusal)
     (λ t.
     let taken = eqb-true (stepOf u i .stop) noRefusal t in
     let next = stepOf u i .table in
     let rest = courses-until n next (stepOf b i .table) later (step-beside n u b beside i taken) in
     subst (Courses n (begunBy (turnOf u i ∷ []) (courseOf next later)))
-    (sym (course-first b i (takenIn (courseOf next later) later) (also-taken n u b beside i taken)))
+    (sym (course-first tables b i (takenIn (courseOf next later) later) (also-taken n u b beside i taken)))
     (record { stop = rest .stop; turns = λ at. same-turn n u b beside i taken at ∷ rest .turns at; tables = rest .tables }))
     (λ _. record { stop = refl; turns = refl; tables = beside })
 
@@ -121,7 +121,7 @@ courses : (n : ℕ) (u b : Table) (schedule : List ℕ) → Beside n u b → cou
     → Courses n (courseOf u schedule) (courseOf b schedule)
 courses n u b schedule beside accepted =
     let all : takenIn (courseOf u schedule) schedule ≡ schedule =
-    ap (λ (k : ℕ). take k schedule) (all-taken u schedule accepted) ∙ take-length schedule in
+    ap (λ (k : ℕ). take k schedule) (all-taken tables u schedule accepted) ∙ take-length schedule in
     subst (λ (bytes : List ℕ). Courses n (courseOf u schedule) (courseOf b bytes)) all (courses-until n u b schedule beside)
 
 pub demand-3 : Demand3
@@ -135,7 +135,7 @@ until-refused n c schedule =
     (both .stop, beside-meets n _ _ (both .tables))
 
 -- Both count alike.
-same-counts : (n : ℕ) (u b : Course) → Courses n u b → u .stop ≡ noRefusal → SameCounts (answerOf u) (answerOf b)
+same-counts : (n : ℕ) (u b : Course Table) → Courses n u b → u .stop ≡ noRefusal → SameCounts (answerOf u) (answerOf b)
 same-counts n u b both accepted =
     record {
       moved = ap movedIn (both .turns);

@@ -12,7 +12,8 @@ use Rattle.fields.specs.Refusals.{noRefusal}
 use Rattle.fields.specs.Rules.{countOk}
 use Rattle.table.specs.Fresh.{freshTable}
 use Rattle.table.specs.declared.Table.{Table}
-use Rattle.runs.specs.Run.{Course, courseOf, enteredIn, answerOf, runOf, bufferOf}
+use Rattle.courses.specs.Course.{Course}
+use Rattle.runs.specs.Run.{courseOf, enteredIn, answerOf, runOf, bufferOf}
 use Rattle.runs.specs.declared.Ran.{Ran}
 use Rattle.demands.specs.Agreement.{meets}
 
@@ -25,7 +26,7 @@ Demand3 =
     u .stop ≡ noRefusal → (b .stop ≡ noRefusal) × (meets n (u .table) (b .table) ≡ true)
 
 -- the bytes of a schedule that its course takes: those before one that is refused
-abbrev pub takenIn : Course → List ℕ → List ℕ
+abbrev pub takenIn : Course Table → List ℕ → List ℕ
 takenIn c schedule = take (length (c .turns)) schedule
 
 -- "Until the unbounded one refuses a byte": of every schedule, and the bytes before the one that the unbounded machine refuses.

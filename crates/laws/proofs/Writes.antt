@@ -1,11 +1,11 @@
 -- A buffer written piece after piece, from a place on: `sets l i v` is list l with the elements of v from place i on.
 use Prim.Native.Nat.{ℕ, suc, _+_, _<_, _≤_}
-use mathlib.Core.Path.{_≡_, _∙_}
-use mathlib.Core.List.{List, [], _∷_, _++_}
+use mathlib.Core.Path.{_≡_, sym, _∙_}
+use mathlib.Core.List.{List, [], _∷_, _++_, append-assoc}
 use native.Mathlib.Omega.{arith}
 use native.Mathlib.Numerals.{add-one}
-use lib.ListN.{length, getD, take, set, length-append}
-use lib.Seq.{sets, length-sets, sets-eq, take-suc, length-take-le}
+use lib.ListN.{length, getD, take, drop, set, length-append}
+use lib.Seq.{sets, length-sets, sets-eq, set-append-seam, take-suc, drop-cons, length-take-le}
 use Rattle.laws.specs.Lent.{inFront, Written}
 
 module _ {A : Type 0} where
@@ -50,3 +50,12 @@ pub in-front : {before piece after : List ℕ} {next : ℕ} → Written before 0
 in-front {before} {piece} w h =
     let e : 0 + length piece ≡ length piece = omega arith in
     w .bytes ∙ sets-eq piece before 0 (omega arith) ∙ rw e
+
+-- an element written after a piece in front stands in front with it, and the rest is as it was
+pub in-front-more : (piece buffer : List ℕ) (i : ℕ) → length piece < length buffer
+    → set (inFront piece buffer) (length piece) i ≡ inFront (piece ++ (i ∷ [])) buffer
+in-front-more piece buffer i room =
+    let one : length (piece ++ (i ∷ [])) ≡ suc (length piece) = length-append piece (i ∷ []) ∙ add-one (length piece) in
+    let later = drop (suc (length piece)) buffer in
+    rw (drop-cons buffer (length piece) 0 room, one)
+    (set-append-seam piece (getD buffer (length piece) 0) later i ∙ sym (append-assoc piece (i ∷ []) later))

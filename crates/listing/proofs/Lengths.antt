@@ -2,7 +2,7 @@
 use Prim.Native.Nat.{ℕ, suc, _+_, _*_, _^_, _<_, _≤_}
 use Prim.Native.String.{String}
 use mathlib.Core.Path.{_≡_, refl}
-use mathlib.Core.List.{List, [], _∷_, _++_, map}
+use mathlib.Core.List.{List, [], _∷_, _++_}
 use native.Mathlib.Omega.{arith}
 use lib.Dec.{eqb}
 use lib.ListN.{length, length-append}
@@ -13,7 +13,8 @@ use Rattle.table.specs.declared.Table.{Table}
 use Rattle.laws.proofs.Tests.{by-test}
 use Rattle.machine.specs.Step.{stepOf}
 use Rattle.machine.proofs.Steps.{step-machine, step-process}
-use Rattle.runs.specs.Run.{Turn, Course, turnOf, those, courseOf, isEntry, enteredIn}
+use Rattle.courses.specs.Course.{Turn, Course, courseOn, those, processesOf}
+use Rattle.runs.specs.Run.{turnOf, courseOf, isEntry, enteredIn}
 use Rattle.runs.specs.declared.Ran.{Ran}
 use Rattle.listing.specs.Text.{ascii, decimal, numbered, lineFeed, numberedLine}
 use Rattle.listing.specs.Listing.{refusedLine, bakeryLine, entryLine, entryLines, countsLine}
@@ -68,10 +69,10 @@ counts-short r m w e q s =
 
 -- the lines of the entries: each byte of the schedule has one at most, of a process number of the table
 pub lines-short : (t : Table) (s : List ℕ) → t .n ≤ slots → length (entryLines (enteredIn (courseOf t s .turns))) ≤ length s * entryRoom
-unfolding courseOf enteredIn those entryLines entryLine ascii
+unfolding courseOn those entryLines entryLine ascii
 lines-short t [] most = omega arith
 lines-short t (i ∷ s) most =
-    by-test (λ (c : Course). length (entryLines (enteredIn (c .turns))) ≤ suc (length s) * entryRoom) (eqb (stepOf t i .stop) noRefusal)
+    by-test (λ (c : Course Table). length (entryLines (enteredIn (c .turns))) ≤ suc (length s) * entryRoom) (eqb (stepOf t i .stop) noRefusal)
     (λ taken. one (eqb-true (stepOf t i .stop) noRefusal taken) (lines-short (stepOf t i .table) s (rw (step-machine t i .1) most)))
     (λ _. omega arith)
   where
@@ -81,7 +82,7 @@ lines-short t (i ∷ s) most =
     one : stepOf t i .stop ≡ noRefusal → length (entryLines (enteredIn later)) ≤ length s * entryRoom
         → length (entryLines (enteredIn (turnOf t i ∷ later))) ≤ suc (length s) * entryRoom
     one stop h =
-        by-test (λ (l : List Turn). length (entryLines (map (λ (u : Turn). u .process) l)) ≤ suc (length s) * entryRoom) (isEntry (turnOf t i))
+        by-test (λ (l : List Turn). length (entryLines (processesOf l)) ≤ suc (length s) * entryRoom) (isEntry (turnOf t i))
         (λ _.
         let process = step-process t i stop .2 in
         let line : length (entryLine i) ≤ 10 = byte-line "entry " i (omega (arith, process, most)) in

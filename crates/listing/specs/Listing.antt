@@ -8,7 +8,8 @@ use Rattle.fields.specs.Numbers.{scheduleLimit}
 use Rattle.fields.specs.Refusals.{noRefusal, scheduleTooLong, formTooShort}
 use Rattle.table.specs.Fresh.{freshOf}
 use Rattle.table.specs.declared.Table.{Table}
-use Rattle.runs.specs.Run.{Course, courseOf, enteredIn, answerOf}
+use Rattle.courses.specs.Course.{Course}
+use Rattle.runs.specs.Run.{courseOf, enteredIn, answerOf}
 use Rattle.runs.specs.declared.Ran.{Ran}
 use Rattle.listing.specs.Text.{numbered, numberedLine}
 
@@ -55,7 +56,7 @@ countsLine r =
     ++ numbered " waiting " (r .waiting) ++ numberedLine " stop " (r .stop)
 
 -- the three parts, of the fresh table t and the course of its run
-unfoldable pub report : Table → Course → List ℕ
+unfoldable pub report : Table → Course Table → List ℕ
 report t c = bakeryLine (t .algorithm) (t .n) ++ entryLines (enteredIn (c .turns)) ++ countsLine (answerOf c)
 
 -- "Otherwise it starts fresh and prints"

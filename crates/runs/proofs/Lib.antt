@@ -1,4 +1,2 @@
-pub mod Counts
-pub mod Courses
 pub mod Going
 pub mod Runs

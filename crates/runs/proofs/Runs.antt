@@ -2,7 +2,7 @@
 use Prim.Native.Nat.{ℕ, _+_, _≤_}
 use mathlib.Core.Path.{_≡_, sym, ap, _∙_}
 use mathlib.Core.Bool.{true}
-use mathlib.Core.List.{List, [], _∷_, _++_}
+use mathlib.Core.List.{List, _++_}
 use native.Mathlib.Omega.{arith}
 use borrow.Author.Tests.{le-leb, leb-true, eqb-true, ne-eqb}
 use lib.Dec.{leb, eqb}
@@ -14,12 +14,13 @@ use Rattle.table.specs.Sized.{Sized}
 use Rattle.laws.specs.Lent.{inFront}
 use Rattle.table.specs.declared.Table.{Table}
 use Rattle.laws.proofs.Tests.{by-test}
-use Rattle.machine.specs.Step.{stepOf}
-use Rattle.machine.proofs.Steps.{step-well-formed, step-sized}
-use Rattle.runs.specs.Run.{Course, begunBy, courseOf, enteredIn, waitingOf, answerOf, runRefusal, runOf, bufferOf}
+use Rattle.courses.specs.Course.{Course, begunBy, changed, unchanged}
+use Rattle.courses.proofs.Counts.{count-append, count-most}
+use Rattle.courses.proofs.Courses.{course-append, course-goes-on, processes-in-turn, taken-most, course-keeps}
+use Rattle.machine.proofs.Steps.{step-sized}
+use Rattle.runs.specs.Run.{tables, courseOf, isEntry, enteredIn, waitingOf, answerOf, runRefusal, runOf, bufferOf}
 use Rattle.runs.specs.declared.Ran.{Ran}
-use Rattle.runs.proofs.Counts.{moved-append, waited-append, entries-append, entered-append, entries-most}
-use Rattle.runs.proofs.Courses.{course-append, course-goes-on, taken-most}
+use Rattle.runs.proofs.Going.{Whole, lawful}
 
 module _ (t : Table) (s b : List ℕ) where
   -- A run of a well-formed table is not refused as a whole, where the schedule is not too long and the buffer is not too short.
@@ -60,25 +61,15 @@ module _ (t : Table) (s b : List ℕ) where
   unfolding runOf
   entries-within =
       by-test (λ (r : Ran). r .entries ≤ length b) (eqb (runRefusal t s b) noRefusal)
-      (λ accepted. omega (arith, entries-most (courseOf t s .turns), taken-most t s, accepted-room (eqb-true _ _ accepted)))
+      (λ accepted. omega (arith, count-most isEntry (courseOf t s .turns), taken-most tables t s, accepted-room (eqb-true _ _ accepted)))
       (λ _. omega arith)
 
 -- The last table of a course is well formed, and sized, if the first one is.
 pub course-well-formed : (t : Table) (s : List ℕ) → wellFormed t ≡ true → Sized t → wellFormed (courseOf t s .table) ≡ true
-unfolding courseOf
-course-well-formed t [] w z = w
-course-well-formed t (i ∷ s) w z =
-    by-test (λ (c : Course). wellFormed (c .table) ≡ true) (eqb (stepOf t i .stop) noRefusal)
-    (λ _. course-well-formed (stepOf t i .table) s (step-well-formed t i w z) (step-sized t i z))
-    (λ _. w)
+course-well-formed t s w z = course-keeps tables Whole (lawful .keeps) t s (record { formed = w; sized = z }) .formed
 
 pub course-sized : (t : Table) (s : List ℕ) → Sized t → Sized (courseOf t s .table)
-unfolding courseOf
-course-sized t [] z = z
-course-sized t (i ∷ s) z =
-    by-test (λ (c : Course). Sized (c .table)) (eqb (stepOf t i .stop) noRefusal)
-    (λ _. course-sized (stepOf t i .table) s (step-sized t i z))
-    (λ _. z)
+course-sized = course-keeps tables Sized (λ t i _. step-sized t i)
 
 -- So the next run, from the last table of one, is not refused as a whole either, where its schedule and its buffer are right.
 pub next-accepted : (t : Table) (s b later next : List ℕ) → wellFormed t ≡ true → Sized t → runRefusal t s b ≡ noRefusal
@@ -99,25 +90,17 @@ afterwards a b = record {
   stop = b .stop;
 }
 
-answer-begun : (c d : Course) → answerOf (begunBy (c .turns) d) ≡ afterwards (answerOf c) (answerOf d)
+answer-begun : (c d : Course Table) → answerOf (begunBy (c .turns) d) ≡ afterwards (answerOf c) (answerOf d)
 answer-begun c d =
     λ at. record {
       table = d .table;
-      moved = moved-append (c .turns) (d .turns) at;
-      waited = waited-append (c .turns) (d .turns) at;
-      entries = entries-append (c .turns) (d .turns) at;
+      moved = count-append changed (c .turns) (d .turns) at;
+      waited = count-append unchanged (c .turns) (d .turns) at;
+      entries = count-append isEntry (c .turns) (d .turns) at;
       waiting = waitingOf (d .table);
       place = length-append (c .turns) (d .turns) at;
       stop = d .stop;
     }
-
--- the entries of a schedule stand before those of a later one
-entered-in-turn : (t : Table) (s later : List ℕ) → courseOf t s .stop ≡ noRefusal
-    → enteredIn (courseOf t (s ++ later) .turns)
-    ≡ enteredIn (courseOf t s .turns) ++ enteredIn (courseOf (courseOf t s .table) later .turns)
-entered-in-turn t s later going =
-    ap (λ (c : Course). enteredIn (c .turns)) (course-goes-on t s later going)
-    ∙ entered-append (courseOf t s .turns) (courseOf (courseOf t s .table) later .turns)
 
 -- A schedule followed by another, each run with a buffer of its own: the run over both is the two runs one after the other, so that a
 -- longer schedule is several runs, each from the last one's table. If a byte of the first is refused, the run over both ends there.
@@ -131,7 +114,7 @@ module _ (t : Table) (s later buffer first : List ℕ) (both : runRefusal t (s +
       let stop : courseOf t s .stop ≡ noRefusal = ap (λ (r : Ran). r .stop) (sym a) ∙ going in
       let last : runOf t s first .table ≡ courseOf t s .table = ap (λ (r : Ran). r .table) a in
       let d = courseOf (courseOf t s .table) later in
-      let joined = course-goes-on t s later stop in
+      let joined = course-goes-on tables t s later stop in
       let b : runOf (runOf t s first .table) later second ≡ answerOf d = run-answer _ later second two ∙ rw last in
       run-answer t (s ++ later) buffer both ∙ ap answerOf joined ∙ answer-begun (courseOf t s) d
       ∙ sym (λ at. afterwards (a at) (b at))
@@ -140,7 +123,7 @@ module _ (t : Table) (s later buffer first : List ℕ) (both : runRefusal t (s +
   run-stopped stopped =
       let a = run-answer t s first one in
       let stop : courseOf t s .stop ≡ noRefusal → ⊥ = λ q. stopped (ap (λ (r : Ran). r .stop) a ∙ q) in
-      run-answer t (s ++ later) buffer both ∙ ap answerOf (course-append t s later ∙ rw (ne-eqb _ noRefusal stop)) ∙ sym a
+      run-answer t (s ++ later) buffer both ∙ ap answerOf (course-append tables t s later ∙ rw (ne-eqb _ noRefusal stop)) ∙ sym a
 
   -- and in the buffer the entries of the first stand before those of the second
   pub run-append-buffer : runOf t s first .stop ≡ noRefusal
@@ -150,4 +133,4 @@ module _ (t : Table) (s later buffer first : List ℕ) (both : runRefusal t (s +
       let a = run-answer t s first one in
       let stop : courseOf t s .stop ≡ noRefusal = ap (λ (r : Ran). r .stop) (sym a) ∙ going in
       let last : runOf t s first .table ≡ courseOf t s .table = ap (λ (r : Ran). r .table) a in
-      run-buffer t (s ++ later) buffer both ∙ rw (last, entered-in-turn t s later stop)
+      run-buffer t (s ++ later) buffer both ∙ rw (last, processes-in-turn tables t s later stop isEntry)

@@ -1,7 +1,8 @@
--- Document 01, "A run": the steps of a schedule one after another, and what is counted of them.
+-- Document 01, "A run": the steps of a schedule one after another, of the bakery's tables, and the answer of `run`. What a course is, and what
+-- is counted of it, is said over any machine in `crates/courses/specs/Course.antt`.
 use Prim.Native.Nat.{ℕ}
 use mathlib.Core.Bool.{Bool, cond}
-use mathlib.Core.List.{List, [], _∷_, _++_, map}
+use mathlib.Core.List.{List}
 use lib.Dec.{leb, eqb}
 use lib.ListN.{length}
 use Rattle.laws.specs.Tests.{within, howMany}
@@ -9,70 +10,37 @@ use Rattle.fields.specs.Numbers.{slots, lineOfEntry, scheduleLimit}
 use Rattle.fields.specs.Refusals.{noRefusal, notWellFormed, scheduleTooLong, entriesTooShort}
 use Rattle.table.specs.WellFormed.{rowOf, wellFormed}
 use Rattle.laws.specs.Lent.{inFront}
+use Rattle.courses.specs.Course.{Machine, Turn, Course, turnOn, courseOn, movedIn, waitedIn, isEntryAt, entriesAt, enteredAt}
 use Rattle.table.specs.declared.Table.{Table}
 use Rattle.machine.specs.Step.{stepOf}
 use Rattle.runs.specs.declared.Ran.{Ran}
 
--- A byte that is taken: the process, the line at which it stood, and the mark of its step.
-pub record Turn : Type 0 where
-  pub process : ℕ
-  pub line : ℕ
-  pub mark : ℕ
+-- both machines as one, since a table says which it is of: the steps are "the steps of demand 2"
+abbrev pub tables : Machine Table
+tables = record {
+  after = λ t i. stepOf t i .table;
+  mark = λ t i. stepOf t i .mark;
+  stop = λ t i. stepOf t i .stop;
+  line = λ t i. rowOf t i .line;
+}
 
 abbrev pub turnOf : Table → ℕ → Turn
-turnOf t i = record { process = i; line = rowOf t i .line; mark = stepOf t i .mark }
+turnOf = turnOn tables
 
--- What comes of a schedule: its bytes that are taken, in order, the last table, and the stop number.
-pub record Course : Type 0 where
-  pub turns : List Turn
-  pub table : Table
-  pub stop : ℕ
-
--- a course that is nothing but its table: no byte is taken
-abbrev pub standsAt : Table → ℕ → Course
-standsAt t stop = record { turns = []; table = t; stop = stop }
-
--- a course begun by some turns
-abbrev pub begunBy : List Turn → Course → Course
-begunBy turns c = record { turns = turns ++ c .turns; table = c .table; stop = c .stop }
-
--- "A run does the steps of demand 2 one after another." "The run takes them in order and stops at the first byte refused." "4 and 5 of run
--- keep the steps and entries before that byte."
-unfoldable pub courseOf : Table → List ℕ → Course
-courseOf t [] = standsAt t noRefusal
-courseOf t (i ∷ later) =
-    let s = stepOf t i in
-    cond (eqb (s .stop) noRefusal) (begunBy (turnOf t i ∷ []) (courseOf (s .table) later)) (standsAt t (s .stop))
-
--- The turns of which f holds.
-unfoldable pub those : (Turn → Bool) → List Turn → List Turn
-those f [] = []
-those f (u ∷ us) = cond (f u) (u ∷ those f us) (those f us)
-
--- "Moved is the count of taken bytes whose step changed the table"
-abbrev pub changed : Turn → Bool
-changed u = eqb (u .mark) 1
-
-unfoldable pub movedIn : List Turn → ℕ
-movedIn us = length (those changed us)
-
--- "waited of those that did not"
-abbrev pub unchanged : Turn → Bool
-unchanged u = eqb (u .mark) 0
-
-unfoldable pub waitedIn : List Turn → ℕ
-waitedIn us = length (those unchanged us)
+-- "A run does the steps of demand 2 one after another."
+abbrev pub courseOf : Table → List ℕ → Course Table
+courseOf = courseOn tables
 
 -- "Entries is the count of line 8 steps taken"
 abbrev pub isEntry : Turn → Bool
-isEntry u = eqb (u .line) lineOfEntry
+isEntry = isEntryAt lineOfEntry
 
-unfoldable pub entriesIn : List Turn → ℕ
-entriesIn us = length (those isEntry us)
+abbrev pub entriesIn : List Turn → ℕ
+entriesIn = entriesAt lineOfEntry
 
 -- "The process number of each entry", "in order"
-unfoldable pub enteredIn : List Turn → List ℕ
-enteredIn us = map (λ (u : Turn). u .process) (those isEntry us)
+abbrev pub enteredIn : List Turn → List ℕ
+enteredIn = enteredAt lineOfEntry
 
 -- whether row i is one of the "rows at line 6 or 7"
 abbrev pub isWaiting : Table → ℕ → Bool
@@ -84,7 +52,7 @@ waitingOf t = howMany (isWaiting t) slots
 
 -- The answer of a run whose bytes are looked at. "the place (from 0) of the refused byte or the schedule's length" is the number of bytes
 -- taken.
-abbrev pub answerOf : Course → Ran
+abbrev pub answerOf : Course Table → Ran
 answerOf c = record {
   table = c .table;
   moved = movedIn (c .turns);

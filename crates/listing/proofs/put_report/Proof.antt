@@ -6,12 +6,14 @@ use lib.ListN.{length, take, drop, replicate, length-append, length-replicate}
 use lib.Seq.{take-at}
 use Rattle.fields.specs.Numbers.{scheduleLimit}
 use Rattle.fields.specs.Refusals.{noRefusal}
+use Rattle.table.specs.declared.Table.{Table}
 use Rattle.table.proofs.WellFormed.{table-rules}
 use Rattle.laws.specs.Lent.{inFront}
 use Rattle.laws.proofs.Writes.{and-then}
-use Rattle.runs.specs.Run.{Course, courseOf, enteredIn, entriesIn, answerOf, runRefusal}
+use Rattle.courses.specs.Course.{Course}
+use Rattle.courses.proofs.Counts.{processes-count}
+use Rattle.runs.specs.Run.{courseOf, isEntry, enteredIn, entriesIn, answerOf, runRefusal}
 use Rattle.runs.specs.declared.Ran.{Ran}
-use Rattle.runs.proofs.Counts.{entered-length}
 use Rattle.runs.proofs.Runs.{run-accepted, run-answer, run-buffer}
 use Rattle.listing.specs.Listing.{entryLines, countsLine, report}
 use Rattle.listing.specs.Room.{entryRoom}
@@ -32,7 +34,7 @@ module _ (c : tie.After-run) where
   abbrev start : tie.Start
   start = c .before .before .before
 
-  abbrev its-course : Course
+  abbrev its-course : Course Table
   its-course = courseOf (start .args .t) (start .args .schedule .now)
 
   accepted : runRefusal (start .args .t) (start .args .schedule .now) (replicate scheduleLimit 0) ≡ noRefusal
@@ -53,7 +55,7 @@ module _ (c : tie.After-run) where
   entered =
       (λ at. take (counted at) (written at))
       ∙ take-at (enteredIn (its-course .turns)) (drop (length (enteredIn (its-course .turns))) (replicate scheduleLimit 0))
-      (entriesIn (its-course .turns)) (entered-length (its-course .turns))
+      (entriesIn (its-course .turns)) (processes-count isEntry (its-course .turns))
 
   -- the lines of the entries fit
   lines-fit : length (entryLines (take (c .run .result .entries) (c .run .last .1 .1 .0))) ≤ scheduleLimit * entryRoom
@@ -94,14 +96,14 @@ array-share-prefix-entries c =
       arith,
       counted run,
       ap (λ (l : List ℕ). length l) (written run),
-      entered-length (its-course run .turns),
+      processes-count isEntry (its-course run .turns),
       length-append front (drop (length front) (replicate scheduleLimit 0)),
     )
 
 slice-aggregate-put-entries : tie.Need-slice-aggregate-put-entries
 slice-aggregate-put-entries c =
     let run = c .before .before .before .before .before in
-    counted run ∙ sym (entered-length (its-course run .turns)) ∙ sym (ap (λ (l : List ℕ). length l) (entered run))
+    counted run ∙ sym (processes-count isEntry (its-course run .turns)) ∙ sym (ap (λ (l : List ℕ). length l) (entered run))
 
 put-entries-requires : tie.Need-put-entries-requires
 put-entries-requires c κs =

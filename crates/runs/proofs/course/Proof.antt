@@ -1,6 +1,6 @@
 -- `course` meets its contract. The loop's invariant: what was done so far is the course of the bytes passed.
 use Prim.Native.Nat.{_-_, _<_, _≤_}
-use mathlib.Core.Path.{_≡_, sym, ap, _∙_}
+use mathlib.Core.Path.{_≡_, ap, _∙_}
 use mathlib.Core.Bool.{true}
 use mir.Facts.{toZ-ofZ}
 use mir.Syntax.{w32}
@@ -18,14 +18,17 @@ use Rattle.machine.specs.Step.{putBack, takenOf, stepOf}
 use Rattle.machine.specs.declared.Stepped.{Stepped}
 use Rattle.machine.proofs.Ready.{ready}
 use Rattle.machine.proofs.Steps.{step-taken, step-bad-number, step-mark-most}
-use Rattle.runs.proofs.Going.{Going, begins, moved-few, entered-few, answered, written, takes, stops, ends}
+use Rattle.courses.proofs.Going.{Going, begins, moved-few, listed-few, takes, stops, ends}
+use Rattle.runs.specs.Run.{tables, isEntry}
+use Rattle.runs.proofs.Going.{Whole, lawful, answered}
 use borrow.Author.Needs.{needs}
 use native.Mathlib.Omega.{arith}
 use Rattle.runs.proofs.course.Statement.{statement}
 use Rattle.runs.proofs.course.Tie as tie
 
 abbrev Inv-loop : tie.InvT-loop
-Inv-loop schedule entries₀ t₀ moved₀ entered₀ k₀ entries t moved entered k = Going schedule entries₀ t₀ entries t moved entered k
+Inv-loop schedule entries₀ t₀ moved₀ entered₀ k₀ entries t moved entered k =
+    Going tables isEntry Whole schedule entries₀ t₀ entries t moved entered k
 
 abbrev μ-loop : tie.MeasureT-loop
 μ-loop schedule entries₀ t₀ moved₀ entered₀ k₀ entries t moved entered k = length schedule - k
@@ -33,7 +36,7 @@ abbrev μ-loop : tie.MeasureT-loop
 loop-holds : tie.Need-loop-holds Inv-loop μ-loop
 loop-holds c =
     let start = c .before .before in
-    begins _ _ (start .args .start) (start .pre .0) (held-sized (start .args .start) _ (start .good .0))
+    begins _ _ (start .args .start) (record { formed = start .pre .0; sized = held-sized (start .args .start) _ (start .good .0) })
 
 shared-slice-read-i : tie.Need-shared-slice-read-i Inv-loop μ-loop
 shared-slice-read-i c = search needs
@@ -54,11 +57,11 @@ returns : tie.Need-returns Inv-loop μ-loop
 returns c =
     let turn = c .before .before .before .before in
     let g = turn .before .loop .inv in
-    let step = step-bad-number (turn .before .loop .t) _ (g .formed)
+    let step = step-bad-number (turn .before .loop .t) _ (g .holds .formed)
     (failed (c .before .before .number-within .ensures) (c .before .if1 .taken)) in
     let stop = ap (λ (r : Stepped). r .stop) step in
-    let e = rw stop at (stops g (turn .loop-test .taken) (λ q. let z : badProcessNumber ≡ noRefusal = sym stop ∙ q in omega arith)) in
-    (c .ended .ensures ∙ answered g _ e, written g _ e)
+    let r = stops g (turn .loop-test .taken) stop (λ (q : badProcessNumber ≡ noRefusal). omega arith) in
+    (answered r (c .ended .ensures), r .front)
 
 -- The process whose byte is read has a row, whose index names another's.
 is-number : (c : tie.Else1 Inv-loop μ-loop)
@@ -70,7 +73,7 @@ process : (c : tie.Else1 Inv-loop μ-loop)
     → let loop = c .before .before .before .before in
     let i = getD (loop .before .before .before .args .schedule .now) (loop .loop .k) 0 in
     (i ≤ slots) × Ready (loop .loop .t .n) (rowOf (loop .loop .t) i)
-process c = ready _ _ (c .before .before .before .before .loop .inv .formed) (is-number c)
+process c = ready _ _ (c .before .before .before .before .loop .inv .holds .formed) (is-number c)
 
 own-slot : (c : tie.After-place-of Inv-loop μ-loop) → c .place-of .result < slots
 own-slot c = omega (arith, c .place-of .ensures, process (c .before) .0)
@@ -116,7 +119,7 @@ stepped c =
     let other = c .before .before .before .before in
     let number = other .before .before .before in
     let x : SFits w32 (number .before .before .before .before .loop .t .x) = search needs in
-    step-taken _ _ (number .before .before .before .before .loop .inv .formed) (is-number number)
+    step-taken _ _ (number .before .before .before .before .loop .inv .holds .formed) (is-number number)
     ∙ rw (
       c .advance .ensures,
       c .before .seen-of .ensures,
@@ -142,14 +145,14 @@ returns-2 c =
     let turn = answer .before .before .before .before .before .before .before .before .before .before in
     let g = turn .before .loop .inv in
     let stop = ap (λ (r : Stepped). r .stop) (stepped answer) in
-    let e = rw stop at (stops g (turn .loop-test .taken) (λ q. omega (arith, sym stop ∙ q, c .before .if2 .taken))) in
-    (c .ended2 .ensures ∙ answered g _ e, written g _ e)
+    let r = stops g (turn .loop-test .taken) stop (λ q. omega (arith, q, c .before .if2 .taken)) in
+    (answered r (c .ended2 .ensures), r .front)
 
 note-entry-requires : tie.Need-note-entry-requires Inv-loop μ-loop
 note-entry-requires c κs =
     let turn = c .before .before .before .before .before .before .before .before .before .before .before .before .before in
     let g = turn .before .loop .inv in
-    omega (arith, entered-few g, g .same, turn .loop-test .taken, turn .before .before .before .before .pre .1)
+    omega (arith, listed-few g, g .same, turn .loop-test .taken, turn .before .before .before .before .pre .1)
 
 cast-mark : tie.Need-cast-mark Inv-loop μ-loop
 cast-mark c = search needs
@@ -188,7 +191,7 @@ loop-again c =
     let step = stepped answer in
     let none-refused : answer .advance .result .stop ≡ noRefusal = omega (arith, note .before .before .if2 .left) in
     let stop = ap (λ (r : Stepped). r .stop) step ∙ none-refused in
-    let g = takes (turn .before .loop .inv) (turn .loop-test .taken) (turn .before .before .before .before .pre .1) stop in
+    let g = takes (turn .before .loop .inv) lawful (turn .loop-test .taken) (turn .before .before .before .before .pre .1) stop in
     rw (note .note-entry .ensures .0, note .note-entry .ensures .1, toZ-ofZ x, own .place-of .ensures)
     (rw step at g)
 
@@ -200,9 +203,8 @@ same-length-3 c = search needs
 
 returns-3 : tie.Need-returns-3 Inv-loop μ-loop
 returns-3 c =
-    let g = c .before .before .loop .inv in
-    let e = ends g (c .before .loop-test .left) in
-    (c .ended3 .ensures ∙ answered g _ e, written g _ e)
+    let r = ends (c .before .before .loop .inv) (c .before .loop-test .left) in
+    (answered r (c .ended3 .ensures), r .front)
 
 pub course-spec : {M : Type 1} → statement M
 course-spec =

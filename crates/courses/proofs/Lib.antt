@@ -1,0 +1,3 @@
+pub mod Counts
+pub mod Courses
+pub mod Going
