@@ -9,9 +9,9 @@ use Rattle.fields.specs.Refusals.{noRefusal}
 use Rattle.table.specs.Sized.{Sized}
 use Rattle.table.specs.declared.Table.{Table}
 use Rattle.laws.proofs.Tests.{by-test}
-use Rattle.writer.specs.Writing.{writeOf, bufferOf}
-use Rattle.reader.specs.Reading.{readOf}
-use Rattle.reader.specs.declared.Restored.{Restored}
+use Rattle.stored.specs.Writing.{writeOf, bufferOf}
+use Rattle.stored.specs.Reading.{readOf}
+use Rattle.stored.specs.declared.Restored.{Restored}
 use Rattle.demands.proofs.RoundTrips.{written-and-read}
 use Rattle.cases.specs.RoundTrips.{writtenAndRead}
 

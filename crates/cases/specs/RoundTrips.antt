@@ -9,11 +9,11 @@ use lib.ListN.{length}
 use Rattle.fields.specs.Refusals.{noRefusal}
 use Rattle.laws.specs.Lent.{inFront}
 use Rattle.table.specs.declared.Table.{Table}
-use Rattle.writer.specs.Form.{formLength}
-use Rattle.writer.specs.Writing.{writeOf}
-use Rattle.reader.specs.Reading.{readOf}
-use Rattle.reader.specs.declared.Restored.{Restored}
-use Rattle.writer.specs.declared.Wrote.{Wrote}
+use Rattle.stored.specs.Form.{formLength}
+use Rattle.stored.specs.Writing.{writeOf}
+use Rattle.stored.specs.Reading.{readOf}
+use Rattle.stored.specs.declared.Restored.{Restored}
+use Rattle.stored.specs.declared.Wrote.{Wrote}
 
 -- what is read of a table that is written: that table where the write is accepted, and else what a read of no bytes answers
 unfoldable pub writtenAndRead : Table → List ℕ → Restored

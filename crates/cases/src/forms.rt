@@ -10,7 +10,7 @@ use crate::reading::next_table;
 use crate::round_trips::read_and_written;
 use crate::round_trips::written_and_read;
 use fields::refusal;
-use reader::Restored;
+use stored::Restored;
 use table::Table;
 
 fn put_restored(r: Restored) {
@@ -37,7 +37,7 @@ fn put_again(form: &[u8]) {
 pub(crate) fn put_read(file: i32) {
     let mut space = io::large_buffer();
     let form = next_piece(file, &mut space);
-    let r = reader::read(form);
+    let r = stored::read(form);
     put_restored(r);
     if r.stop == refusal::NO_REFUSAL {
         put_again(form);
@@ -45,7 +45,7 @@ pub(crate) fn put_read(file: i32) {
 }
 
 fn put_wrote(t: Table, lent: &mut [u8]) {
-    let w = writer::write(t, lent);
+    let w = stored::write(t, lent);
     put_two(b"length 0 stop 1\nbytes", w.length, w.stop as usize);
     put_lent(lent, w.length);
     put_restored(written_and_read(t, lent));

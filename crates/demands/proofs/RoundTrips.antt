@@ -3,15 +3,15 @@ use mathlib.Core.Path.{_≡_, sym, ap, _∙_}
 use native.Mathlib.Omega.{arith}
 use lib.ListN.{length, drop}
 use lib.Seq.{take-at}
-use Rattle.writer.specs.Form.{encode, formLength}
-use Rattle.reader.specs.Fields.{tableIn}
-use Rattle.writer.specs.Writing.{writeOf}
-use Rattle.reader.specs.Reading.{readOf}
-use Rattle.writer.specs.declared.Wrote.{Wrote}
-use Rattle.reader.specs.declared.Restored.{Restored}
-use Rattle.writer.proofs.Lengths.{encode-length}
-use Rattle.writer.proofs.WriteAnswers as writing
-use Rattle.reader.proofs.RoundTrips as laws
+use Rattle.stored.specs.Form.{encode, formLength}
+use Rattle.stored.specs.Fields.{tableIn}
+use Rattle.stored.specs.Writing.{writeOf}
+use Rattle.stored.specs.Reading.{readOf}
+use Rattle.stored.specs.declared.Wrote.{Wrote}
+use Rattle.stored.specs.declared.Restored.{Restored}
+use Rattle.stored.proofs.Lengths.{encode-length}
+use Rattle.stored.proofs.WriteAnswers as writing
+use Rattle.stored.proofs.RoundTrips as laws
 use Rattle.demands.specs.RoundTrips.{WrittenAndRead, ReadAndWritten, WriteAccepted, FormAccepted, ReadWellFormed}
 
 pub written-and-read : WrittenAndRead

@@ -11,9 +11,9 @@ use Rattle.table.specs.WellFormed.{wellFormed}
 use Rattle.table.specs.Sized.{Sized}
 use Rattle.laws.specs.Lent.{inFront}
 use Rattle.table.specs.declared.Table.{Table}
-use Rattle.writer.specs.Form.{encode, formLength}
-use Rattle.writer.specs.Writing.{writeOf, bufferOf}
-use Rattle.reader.specs.Reading.{readOf}
+use Rattle.stored.specs.Form.{encode, formLength}
+use Rattle.stored.specs.Writing.{writeOf, bufferOf}
+use Rattle.stored.specs.Reading.{readOf}
 
 -- each element is a byte
 abbrev pub Bytes : List ℕ → Type 0

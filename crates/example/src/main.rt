@@ -46,8 +46,8 @@ fn main() {
     put(b"stop ", number(first.stop));
     // 7 + 79n bytes hold the table; what is read back is the same table
     let mut form = [0; 165];
-    put(b"stored ", writer::write(first.table, &mut form).length);
-    let restored = reader::read(&form).table;
+    put(b"stored ", stored::write(first.table, &mut form).length);
+    let restored = stored::read(&form).table;
     // the next run goes on from there: process 1 leaves, and process 2 enters
     let second = run_and_put(restored, &[1, 1, 2, 2], &mut entries);
     put(b"waiting ", second.waiting);

@@ -6,8 +6,8 @@ use Rattle.promises.specs.Calls.{ValueOfNumberRelied, ValueEqualsRelied,
 use Rattle.promises.specs.Calls.{LimitOfRelied, AlgorithmOkRelied, CountOkRelied, XOkRelied, LineOkRelied, IndexOkRelied}
 use Rattle.promises.specs.Calls.{ChoosingOkRelied, TokenOkRelied, PivotOkRelied, MayHoldRelied, CellOkRelied, PlaceOfRelied}
 use Rattle.promises.specs.Calls.{XOfRelied, TokenOfRelied, PivotOfRelied, WellFormedRelied, FreshRelied, NextTokenRelied}
-use Rattle.promises.specs.Calls.{GoesBeforeRelied, SeenOfRelied, AdvanceRelied, StepRelied, RunRelied, FormLengthRelied}
-use Rattle.promises.specs.Calls.{WriteRelied, ReadRelied, ListRelied}
+use Rattle.promises.specs.Calls.{GoesBeforeRelied, SeenOfRelied, AdvanceRelied, StepRelied, RunRelied, WriteRelied}
+use Rattle.promises.specs.Calls.{ReadRelied, ListRelied}
 
 -- two answers that are both the definition's
 same : {A : Type 0} {definition a b : A} → a ≡ definition → b ≡ definition → a ≡ b
@@ -103,9 +103,6 @@ run-relied = record {
   answers = record { every-input = λ κs given. tt; one-answer = λ p q. same (p .0) (q .0) };
   one-buffer = λ p q. same (p .1) (q .1);
 }
-
-pub form-length-relied : FormLengthRelied
-form-length-relied = record { every-input = λ κs given. tt; one-answer = same }
 
 pub write-relied : WriteRelied
 write-relied = record {

@@ -27,9 +27,8 @@ use Rattle.rows.proofs.seen_of
 use Rattle.rows.proofs.advance
 use Rattle.machine.proofs.step
 use Rattle.runs.proofs.run
-use Rattle.writer.proofs.form_length
-use Rattle.writer.proofs.write
-use Rattle.reader.proofs.read
+use Rattle.stored.proofs.write
+use Rattle.stored.proofs.read
 use Rattle.listing.proofs.list
 use Rattle.promises.specs.Relied.{Answers, AnswersAndLeaves}
 
@@ -124,14 +123,10 @@ StepRelied = Answers 0 step.Kinds.ps step.Kinds.r step.Reads.Asked step.Reads.Le
 abbrev pub RunRelied : Type 0
 RunRelied = AnswersAndLeaves 2 run.Kinds.ps run.Kinds.r run.Reads.Asked run.Reads.Learnt (λ κs e. now (e .1 .1 .0))
 
--- `writer`: writing; the buffer is the second parameter
-abbrev pub FormLengthRelied : Type 0
-FormLengthRelied = Answers 0 form_length.Kinds.ps form_length.Kinds.r form_length.Reads.Asked form_length.Reads.Learnt
-
+-- `stored`: writing and reading; the buffer of writing is the second parameter
 abbrev pub WriteRelied : Type 0
 WriteRelied = AnswersAndLeaves 1 write.Kinds.ps write.Kinds.r write.Reads.Asked write.Reads.Learnt (λ κs e. now (e .1 .0))
 
--- `reader`: reading
 abbrev pub ReadRelied : Type 0
 ReadRelied = Answers 1 read.Kinds.ps read.Kinds.r read.Reads.Asked read.Reads.Learnt
 

@@ -3,7 +3,7 @@ use mathlib.Core.Path.{sym}
 use native.Mathlib.Omega.{arith}
 use lib.Seq.{length-take-le}
 use Rattle.table.proofs.Held.{held-sized}
-use Rattle.writer.proofs.WriteAnswers.{written-within}
+use Rattle.stored.proofs.WriteAnswers.{written-within}
 use Rattle.cases.proofs.RoundTrips.{written-read}
 use borrow.Author.Needs.{needs}
 use Rattle.cases.proofs.round_trips.written_and_read.Statement.{statement}

@@ -1,0 +1,13 @@
+pub mod Lengths
+pub mod Signs
+pub mod WriteAnswers
+pub mod Filled
+pub mod Numbers
+pub mod Ranges
+pub mod TableIn
+pub mod Checks
+pub mod Accepted
+pub mod Records
+pub mod ReadBack
+pub mod WrittenAgain
+pub mod RoundTrips

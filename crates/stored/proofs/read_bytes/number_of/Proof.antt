@@ -1,0 +1,36 @@
+-- `number_of` meets its contract.
+use Prim.Native.Nat.{ℕ, suc, _-_, _^_}
+use mathlib.Core.Path.{_≡_}
+use native.Mathlib.Omega.{arith}
+use borrow.Author.Needs.{needs}
+use Rattle.fields.specs.Numbers.{allBits}
+use Rattle.stored.specs.Fields.{numberOf}
+use Rattle.stored.proofs.read_bytes.number_of.Statement.{statement}
+use Rattle.stored.proofs.read_bytes.number_of.Tie as tie
+
+-- how far bits are from those of -1, as the prover's own reading of signed bits counts it
+below-zero : (bits : ℕ) → 2 ^ 32 - suc bits ≡ allBits - bits
+below-zero bits = omega arith
+
+cast-t4 : tie.Need-cast-t4
+cast-t4 c = search needs
+
+sub-t5 : tie.Need-sub-t5
+sub-t5 c = search needs
+
+cast-t6 : tie.Need-cast-t6
+cast-t6 c = search needs
+
+returns : tie.Need-returns
+unfolding numberOf
+returns c = rw (below-zero (c .before .args .bits))
+
+returns-2 : tie.Need-returns-2
+unfolding numberOf
+returns-2 c =
+    let bits = c .before .args .bits in
+    let twice : allBits - (allBits - bits) ≡ bits = omega (arith, c .before .fits .bits .fits) in
+    rw (twice, below-zero bits)
+
+pub number-of-spec : {M : Type 1} → statement M
+number-of-spec = tie.close (tie.spec cast-t4 sub-t5 cast-t6 returns returns-2)

@@ -1,0 +1,5 @@
+pub mod FourBytes
+pub mod Form
+pub mod Fields
+pub mod Writing
+pub mod Reading

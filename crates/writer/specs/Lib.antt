@@ -1,3 +1,0 @@
-pub mod FourBytes
-pub mod Form
-pub mod Writing
