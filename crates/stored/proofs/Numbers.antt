@@ -8,11 +8,10 @@ use lib.Dec.{ltb}
 use lib.IntN.{ℤ, pos, negsuc}
 use mir.Syntax.{w32}
 use mir.Val.{SFits}
-use Rattle.fields.specs.Numbers.{allBits}
 use Rattle.laws.proofs.Tests.{by-test}
-use Rattle.stored.specs.FourBytes.{bitsOf, fourDigits, fourBytes}
-use Rattle.stored.proofs.Signs.{bits-fit}
+use Rattle.stored.specs.FourBytes.{allBits, bitsOf, fourDigits, fourBytes}
 use Rattle.stored.specs.Fields.{numberOf, byteAt, bitsAt, numberAt}
+use Rattle.stored.proofs.Signs.{back-again, bits-fit}
 use Rattle.laws.proofs.Standing.{Stands, stands-first, listed-stand}
 
 -- A number and its bits.
@@ -21,8 +20,7 @@ unfolding numberOf
 number-bits (pos a) f = rw (lt-ltb a (2 ^ 31) (f .sfits))
 number-bits (negsuc a) f =
     let small : a < 2 ^ 31 = f .sfits in
-    let back : allBits - (allBits - a) ≡ a = omega arith in
-    rw (le-ltb (allBits - a) (2 ^ 31) (omega arith), back)
+    rw (le-ltb (allBits - a) (2 ^ 31) (omega arith), back-again a (omega arith))
 
 bits-number : (bits : ℕ) → bits < 2 ^ 32 → bitsOf (numberOf bits) ≡ bits
 unfolding numberOf

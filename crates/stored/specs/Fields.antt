@@ -5,11 +5,12 @@ use mathlib.Core.List.{List, [], _∷_, _++_}
 use lib.Dec.{ltb}
 use lib.IntN.{ℤ, pos, negsuc}
 use lib.ListN.{getD, replicate}
-use Rattle.fields.specs.Numbers.{slots, none, topOf, allBits}
+use Rattle.fields.specs.Numbers.{slots, none, topOf}
 use Rattle.table.specs.Fresh.{freshRow}
 use Rattle.table.specs.declared.Row.{Row}
 use Rattle.table.specs.declared.Table.{Table}
 use Rattle.laws.specs.InTurn.{inTurn}
+use Rattle.stored.specs.FourBytes.{allBits}
 use Rattle.stored.specs.Form.{rowLength, formLength}
 
 -- the number of some bits: the upper half are the numbers below 0

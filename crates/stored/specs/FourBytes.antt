@@ -1,8 +1,11 @@
 -- Document 01, "Stored form": "Numbers of four bytes are little-endian; -1 is four bytes of 255."
-use Prim.Native.Nat.{ℕ, _-_, _/_, _%_}
+use Prim.Native.Nat.{ℕ, _-_, _/_, _%_, _^_}
 use mathlib.Core.List.{List, [], _∷_}
 use lib.IntN.{ℤ, pos, negsuc}
-use Rattle.fields.specs.Numbers.{allBits}
+
+-- "-1 is four bytes of 255": the bits of -1
+abbrev pub allBits : ℕ
+allBits = 2 ^ 32 - 1
 
 -- A number as its 32 bits. Those below 0 count down from -1, which has all bits.
 abbrev pub bitsOf : ℤ → ℕ

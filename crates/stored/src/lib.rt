@@ -3,7 +3,6 @@
 mod bytes;
 mod faults;
 mod places;
-mod read_bytes;
 mod reading;
 mod writing;
 

@@ -1,8 +1,8 @@
 -- `number_at` meets its contract.
 use borrow.Author.Needs.{needs}
 use Rattle.stored.specs.Fields.{numberAt}
-use Rattle.stored.proofs.read_bytes.number_at.Statement.{statement}
-use Rattle.stored.proofs.read_bytes.number_at.Tie as tie
+use Rattle.stored.proofs.bytes.number_at.Statement.{statement}
+use Rattle.stored.proofs.bytes.number_at.Tie as tie
 
 bits-at-requires : tie.Need-bits-at-requires
 bits-at-requires c κs = search needs
