@@ -50,7 +50,8 @@ fn after_largest(most: UbToken) -> Next
     given(UbToken::of_next(next).value())
 }
 
-// The next token of a machine, with this pivot and these read cells: refusals 2, then 5.
+// The next token of a machine, with this pivot and these read cells: refusals 2, then 5. The cells come by value: with
+// a reference it would have to ask that they are sixteen, and a public call asks nothing. From here on they are lent.
 pub fn next_token(algorithm: u8, n: u8, pivot: Value, cells: [i32; SLOTS]) -> Next
     ensures { λ v. ⌜ v ≡ nextOf algorithm n (pivot .0) cells ⌝ }
 {
@@ -58,9 +59,9 @@ pub fn next_token(algorithm: u8, n: u8, pivot: Value, cells: [i32; SLOTS]) -> Ne
         return refused(refusal::BAD_PROCESS_COUNT);
     }
     if algorithm == UNBOUNDED {
-        return after_largest(UbToken::largest(UbToken::of(pivot), cells));
+        return after_largest(UbToken::largest(UbToken::of(pivot), &cells));
     }
-    given(BToken::next(n, BToken::of(pivot), cells).value())
+    given(BToken::next(n, BToken::of(pivot), &cells).value())
 }
 
 // Whether process i goes before process j on a machine, by the token of each.

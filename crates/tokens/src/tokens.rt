@@ -1,11 +1,12 @@
 // A token of each of the two machines, as a type of its own.
 ghost use mathlib.Core.Path.{_≡_};
 ghost use mathlib.Core.List.{map};
+ghost use lib.ListN.{length};
 ghost use lib.IntN.{pos, _+ℤ_, _-ℤ_};
 ghost use lib.Signed.{ltZ};
 ghost use mir.Syntax.{w32};
 ghost use mir.Val.{SFits};
-ghost use Rattle.fields.specs.Numbers.{tokenLimit, modulusOf};
+ghost use Rattle.fields.specs.Numbers.{slots, tokenLimit, modulusOf};
 ghost use Rattle.tokens.specs.Count.{Count};
 ghost use Rattle.tokens.specs.Tokens.{remainder, largest, shifted, shiftedCell, nextB, beforeUb, beforeB};
 use crate::numbers::Whole;
@@ -36,8 +37,9 @@ impl UbToken {
     }
 
     // The largest of the pivot and the read cells.
-    pub(crate) fn largest(pivot: UbToken, cells: [i32; SLOTS]) -> UbToken
-        ensures { λ t. ⌜ t .0 ≡ largest (pivot .0) cells ⌝ }
+    pub(crate) fn largest(pivot: UbToken, cells: &[i32; SLOTS]) -> UbToken
+        requires { ⌜ length (now cells) ≡ slots ⌝ }
+        ensures { λ t. ⌜ t .0 ≡ largest (pivot .0) (now (cells .entry)) ⌝ }
     {
         UbToken::of(largest(pivot.value(), cells))
     }
@@ -121,9 +123,9 @@ impl BToken {
     }
 
     // The shifted read cells, as a second array.
-    fn shifted_cells(n: u8, pivot: BToken, cells: [i32; SLOTS]) -> [i32; SLOTS]
-        requires { ⌜ Count n ⌝ }
-        ensures { λ r. ⌜ r ≡ map (shiftedCell n (pivot .0)) cells ⌝ }
+    fn shifted_cells(n: u8, pivot: BToken, cells: &[i32; SLOTS]) -> [i32; SLOTS]
+        requires { ⌜ Count n × (length (now cells) ≡ slots) ⌝ }
+        ensures { λ r. ⌜ r ≡ map (shiftedCell n (pivot .0)) (now (cells .entry)) ⌝ }
     {
         let mut out = [NONE; SLOTS];
         for k in 0..SLOTS {
@@ -136,12 +138,13 @@ impl BToken {
     }
 
     // The next token: (m + p - n + 2) mod M, where m is the largest of the shifted pivot and the shifted read cells.
-    pub(crate) fn next(n: u8, pivot: BToken, cells: [i32; SLOTS]) -> BToken
-        requires { ⌜ Count n ⌝ }
-        ensures { λ v. ⌜ v .0 ≡ nextB n (pivot .0) cells ⌝ }
+    pub(crate) fn next(n: u8, pivot: BToken, cells: &[i32; SLOTS]) -> BToken
+        requires { ⌜ Count n × (length (now cells) ≡ slots) ⌝ }
+        ensures { λ v. ⌜ v .0 ≡ nextB n (pivot .0) (now (cells .entry)) ⌝ }
     {
         let own = Value::of_number(pivot.shifted(n, pivot) as u16);
-        let most = largest(own, BToken::shifted_cells(n, pivot, cells));
+        let others = BToken::shifted_cells(n, pivot, cells);
+        let most = largest(own, &others);
         BToken::unshifted(n, pivot, most)
     }
 
