@@ -26,7 +26,7 @@ import files
 import schedules
 
 # The call that is measured.
-CRATE, CALL = "runs", "runs::run"
+CRATE, CALL = "machine", "machine::run"
 
 # What C calls of the library.
 EXPORT = """// A run of the library from a fresh table, as C calls it: all of its answer but the table.

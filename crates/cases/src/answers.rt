@@ -9,7 +9,7 @@ use crate::reading::next_byte;
 use crate::reading::next_length;
 use crate::reading::next_piece;
 use crate::reading::next_table;
-use runs::Ran;
+use machine::Ran;
 use table::Table;
 
 pub(crate) fn put_fresh(file: i32) {
@@ -39,7 +39,7 @@ fn put_counts(r: Ran) {
 }
 
 fn put_ran(start: Table, schedule: &[u8], lent: &mut [u8]) {
-    let r = runs::run(start, schedule, lent);
+    let r = machine::run(start, schedule, lent);
     put_counts(r);
     put_lent(lent, r.entries);
     put_table(r.table);

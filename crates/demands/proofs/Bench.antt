@@ -19,15 +19,15 @@ use Rattle.table.specs.declared.Row.{Row}
 use Rattle.table.specs.declared.Table.{Table}
 use Rattle.laws.proofs.Tests.{_and_, within-low, within-high, every-at}
 use Rattle.table.proofs.WellFormed.{fresh-well-formed}
-use Rattle.rows.specs.Setters.{withLine, withIndex, withToken}
-use Rattle.rows.specs.Lines.{line4, lineStep, anyLine}
+use Rattle.machine.specs.Setters.{withLine, withIndex, withToken}
+use Rattle.machine.specs.Lines.{line4, lineStep, anyLine}
 use Rattle.machine.specs.Step.{takenOf, stepOf}
 use Rattle.courses.specs.Course.{Course, courseOn, those}
-use Rattle.runs.specs.Run.{enteredIn, answerOf, runRefusal, runOf, bufferOf}
+use Rattle.machine.specs.Run.{enteredIn, answerOf, runRefusal, runOf, bufferOf}
 use Rattle.machine.specs.declared.Stepped.{Stepped}
-use Rattle.runs.specs.declared.Ran.{Ran}
+use Rattle.machine.specs.declared.Ran.{Ran}
 use Rattle.machine.proofs.Steps.{step-taken}
-use Rattle.runs.proofs.Runs.{run-answer, run-buffer}
+use Rattle.machine.proofs.Runs.{run-answer, run-buffer}
 use Rattle.demands.specs.Bench.{onBoth, forEachCount, lentFor, ran, entered, stepWaits, atLine4, alternating, threeOnes, benchCases}
 use Rattle.demands.specs.Bench.{allHold}
 use Rattle.demands.specs.Bench as cases

@@ -13,10 +13,10 @@ use Rattle.table.specs.declared.Table.{Table}
 use Rattle.laws.proofs.Tests.{and-halves}
 use Rattle.table.proofs.WellFormed.{fresh-well-formed, fresh-sized}
 use Rattle.tokens.specs.Tokens.{remainder, largest, nextUb, shifted, shiftedCell, nextB, beforeUb, beforeB, nextToken, goesBefore}
-use Rattle.rows.specs.Lines.{nextOther, goesOn, line2, line4, line5, line6, line7, lineStep, anyLine}
+use Rattle.machine.specs.Lines.{nextOther, goesOn, line2, line4, line5, line6, line7, lineStep, anyLine}
 use Rattle.machine.specs.Step.{takenOf, stepOf}
 use Rattle.courses.specs.Course.{Machine, Course, courseOn, those}
-use Rattle.runs.specs.Run.{courseOf, runRefusal, runOf, bufferOf}
+use Rattle.machine.specs.Run.{courseOf, runRefusal, runOf, bufferOf}
 use Rattle.machine.proofs.Steps.{step-taken, step-machine, step-well-formed, step-sized}
 
 -- whether each byte is the number of one of n processes

@@ -12,7 +12,7 @@ use Rattle.table.specs.Fresh.{freshTable}
 use Rattle.table.specs.declared.Table.{Table}
 use Rattle.laws.proofs.Tests.{and-halves}
 use Rattle.table.proofs.WellFormed.{table-rules, token-range}
-use Rattle.runs.specs.Run.{courseOf}
+use Rattle.machine.specs.Run.{courseOf}
 use Rattle.theory.proofs.Counting.{Process}
 use Rattle.theory.proofs.Tokens.{held, modulus, ahead}
 use Rattle.theory.proofs.Model.{State, fresh}

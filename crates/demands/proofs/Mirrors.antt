@@ -13,7 +13,7 @@ use Rattle.table.specs.declared.Table.{Table}
 use Rattle.machine.specs.Step.{stepOf}
 use Rattle.machine.proofs.Steps.{step-process}
 use Rattle.courses.proofs.Courses.{Keeps, course-keeps}
-use Rattle.runs.specs.Run.{tables, courseOf}
+use Rattle.machine.specs.Run.{tables, courseOf}
 use Rattle.theory.proofs.Counting.{Process}
 use Rattle.theory.proofs.Tokens.{unboundedMachine}
 use Rattle.theory.proofs.Model.{State, fresh, moves, step}

@@ -24,11 +24,11 @@ use Rattle.table.specs.declared.Table.{Table}
 use Rattle.laws.proofs.Tests.{and-both, within-high, within-yes}
 use Rattle.tokens.specs.Tokens.{remainder, largest, shifted, shiftedCell, nextUb, nextB, nextToken}
 use Rattle.tokens.specs.Answers.{isAboveLimit}
-use Rattle.rows.specs.Setters.{withLine, withIndex, withChoosing, withToken, withPivot}
-use Rattle.rows.specs.Lines.{moves, nextOther, goesOn, line2, line4, line5, line6, line7, lineStep, anyLine}
+use Rattle.machine.specs.Setters.{withLine, withIndex, withChoosing, withToken, withPivot}
+use Rattle.machine.specs.Lines.{moves, nextOther, goesOn, line2, line4, line5, line6, line7, lineStep, anyLine}
 use Rattle.machine.specs.Step.{seenOf, takenOf}
 use Rattle.courses.specs.Course.{Course, standsAt, courseOn, those, movedIn, waitedIn}
-use Rattle.runs.specs.Run.{courseOf, entriesIn, answerOf}
+use Rattle.machine.specs.Run.{courseOf, entriesIn, answerOf}
 use Rattle.theory.proofs.Counting.{by-equality}
 use Rattle.demands.specs.Passage.{passageLines, movesFrom, leftBehind, passageLength, passageAnswer, PassageAlone}
 use Rattle.demands.proofs.Computed.{numbers, plain, fresh-plain}

@@ -18,12 +18,12 @@ use Rattle.laws.proofs.Tests.{by-test, and-halves, within-low, within-high}
 use Rattle.table.proofs.WellFormed.{RowRules, is-none, line-range}
 use Rattle.tokens.specs.Tokens.{nextToken, goesBefore}
 use Rattle.tokens.specs.Answers.{isAboveLimit}
-use Rattle.rows.specs.Setters.{withLine, withIndex, withChoosing, withCell}
-use Rattle.rows.specs.Lines.{waits, nextOther, goesOn, passes, lineStep, anyLine, line1, line2, line3, line4, line5, line6, line7, line8}
-use Rattle.rows.specs.Lines.{line9, line10}
-use Rattle.rows.specs.Lines as machine
-use Rattle.rows.specs.declared.Seen.{Seen}
-use Rattle.rows.specs.declared.Advanced.{Advanced}
+use Rattle.machine.specs.Setters.{withLine, withIndex, withChoosing, withCell}
+use Rattle.machine.specs.Lines.{waits, nextOther, goesOn, passes, lineStep, anyLine, line1, line2, line3, line4, line5, line6, line7, line8}
+use Rattle.machine.specs.Lines.{line9, line10}
+use Rattle.machine.specs.Lines as machine
+use Rattle.machine.specs.declared.Seen.{Seen}
+use Rattle.machine.specs.declared.Advanced.{Advanced}
 use Rattle.theory.proofs.Tokens as theory
 use Rattle.theory.proofs.Model.{Place, at1, at2, at3, at4, at5, at6, at7, at8, at9, at10, State, isChoosing, goes, afterCell, movesAt}
 use Rattle.theory.proofs.Model.{rowAfter, xAfter}

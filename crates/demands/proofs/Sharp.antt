@@ -14,9 +14,9 @@ use Rattle.table.specs.declared.Row.{Row}
 use Rattle.table.specs.declared.Table.{Table}
 use Rattle.laws.proofs.Tests.{up-to-next}
 use Rattle.tokens.specs.Tokens.{remainder}
-use Rattle.rows.specs.Setters.{withLine, withIndex, withChoosing, withToken}
+use Rattle.machine.specs.Setters.{withLine, withIndex, withChoosing, withToken}
 use Rattle.courses.specs.Course.{Course, courseOn}
-use Rattle.runs.specs.Run.{courseOf}
+use Rattle.machine.specs.Run.{courseOf}
 use Rattle.theory.proofs.Counting.{largest}
 use Rattle.theory.proofs.Tokens.{shifted, nextBounded, beforeBounded}
 use Rattle.demands.specs.Agreement.{f, isRemainder, rowAgrees, rowAtAgrees, agree, meets}

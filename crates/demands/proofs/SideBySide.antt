@@ -20,9 +20,9 @@ use Rattle.machine.specs.Step.{stepOf}
 use Rattle.machine.proofs.Steps.{step-process}
 use Rattle.courses.specs.Course.{Course, begunBy, courseOn, movedIn, waitedIn}
 use Rattle.courses.proofs.Courses.{course-first, all-taken}
-use Rattle.runs.specs.Run.{tables, turnOf, courseOf, entriesIn, enteredIn, isWaiting, waitingOf, answerOf, runRefusal, runOf, bufferOf}
-use Rattle.runs.specs.declared.Ran.{Ran}
-use Rattle.runs.proofs.Runs.{run-not-refused, run-answer, run-buffer}
+use Rattle.machine.specs.Run.{tables, turnOf, courseOf, entriesIn, enteredIn, isWaiting, waitingOf, answerOf, runRefusal, runOf, bufferOf}
+use Rattle.machine.specs.declared.Ran.{Ran}
+use Rattle.machine.proofs.Runs.{run-not-refused, run-answer, run-buffer}
 use Rattle.theory.proofs.Theorems.{mutual-exclusion}
 use Rattle.demands.specs.Agreement.{meets}
 use Rattle.demands.specs.SideBySide.{Demand3, takenIn, UntilRefused, SameCounts, Alike, Piece, RunsMeet, InRuns}

@@ -14,10 +14,10 @@ use Rattle.table.specs.declared.Row.{Row}
 use Rattle.table.specs.declared.Table.{Table}
 use Rattle.laws.proofs.Tests.{by-test, within-yes}
 use Rattle.table.proofs.WellFormed.{table-rules}
-use Rattle.rows.specs.Lines.{passes, line2, line4, line5, line6, line7, anyLine}
-use Rattle.rows.specs.declared.Seen.{Seen}
-use Rattle.rows.specs.declared.Advanced.{Advanced}
-use Rattle.rows.proofs.ByLine.{by-line}
+use Rattle.machine.specs.Lines.{passes, line2, line4, line5, line6, line7, anyLine}
+use Rattle.machine.specs.declared.Seen.{Seen}
+use Rattle.machine.specs.declared.Advanced.{Advanced}
+use Rattle.machine.proofs.ByLine.{by-line}
 use Rattle.machine.specs.Step.{seenOf, putBack, takenOf, stepOf}
 use Rattle.machine.specs.declared.Stepped.{Stepped}
 use Rattle.machine.proofs.Steps.{step-taken, step-process}

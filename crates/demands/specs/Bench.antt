@@ -14,10 +14,10 @@ use Rattle.table.specs.Fresh.{allNone, freshRow, freshTable}
 use Rattle.laws.specs.Lent.{inFront}
 use Rattle.table.specs.declared.Table.{Table}
 use Rattle.tokens.specs.Tokens.{nextToken, goesBefore}
-use Rattle.rows.specs.Setters.{withLine, withChoosing, withPivot, withCells}
+use Rattle.machine.specs.Setters.{withLine, withChoosing, withPivot, withCells}
 use Rattle.machine.specs.Step.{refusedStep, stepOf}
-use Rattle.runs.specs.Run.{runOf, bufferOf}
-use Rattle.runs.specs.declared.Ran.{Ran}
+use Rattle.machine.specs.Run.{runOf, bufferOf}
+use Rattle.machine.specs.declared.Ran.{Ran}
 
 -- The words that the cases are written in.
 

@@ -12,7 +12,7 @@ use Rattle.table.specs.Fresh.{freshTable}
 use Rattle.table.specs.declared.Table.{Table}
 use Rattle.tokens.specs.Tokens.{remainder}
 use Rattle.machine.specs.Step.{stepOf}
-use Rattle.runs.specs.Run.{courseOf}
+use Rattle.machine.specs.Run.{courseOf}
 use Rattle.demands.specs.Agreement.{atMostOne}
 
 -- process i of n holds a token

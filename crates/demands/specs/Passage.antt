@@ -12,8 +12,8 @@ use Rattle.fields.specs.Rules.{algorithmOk, countOk}
 use Rattle.table.specs.Fresh.{freshRow, freshTable}
 use Rattle.table.specs.declared.Table.{Table}
 use Rattle.courses.specs.Course.{Turn}
-use Rattle.runs.specs.Run.{courseOf, answerOf}
-use Rattle.runs.specs.declared.Ran.{Ran}
+use Rattle.machine.specs.Run.{courseOf, answerOf}
+use Rattle.machine.specs.declared.Ran.{Ran}
 
 -- the lines of a passage, step by step: line 2 for each of n processes, lines 6 and 7 for each of the n - 1 others
 abbrev pub passageLines : ℕ → List ℕ

@@ -11,7 +11,7 @@ use Rattle.fields.specs.Refusals.{noRefusal}
 use Rattle.table.specs.WellFormed.{rowOf}
 use Rattle.table.specs.Fresh.{freshTable}
 use Rattle.table.specs.declared.Table.{Table}
-use Rattle.runs.specs.Run.{courseOf}
+use Rattle.machine.specs.Run.{courseOf}
 use Rattle.theory.proofs.Tokens.{Machine, machineModulo}
 use Rattle.theory.proofs.Model.{State, fresh, step, at8}
 use Rattle.demands.specs.Agreement.{meets}

@@ -13,8 +13,8 @@ use Rattle.fields.specs.Rules.{countOk}
 use Rattle.table.specs.Fresh.{freshTable}
 use Rattle.table.specs.declared.Table.{Table}
 use Rattle.courses.specs.Course.{Course}
-use Rattle.runs.specs.Run.{courseOf, enteredIn, answerOf, runOf, bufferOf}
-use Rattle.runs.specs.declared.Ran.{Ran}
+use Rattle.machine.specs.Run.{courseOf, enteredIn, answerOf, runOf, bufferOf}
+use Rattle.machine.specs.declared.Ran.{Ran}
 use Rattle.demands.specs.Agreement.{meets}
 
 -- Said of every schedule that the unbounded machine accepts, so after every byte of one.

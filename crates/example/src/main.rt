@@ -1,9 +1,9 @@
 // How the library is called: two controllers on the bounded machine. A schedule is run, its entries are printed, and the table is kept as
 // bytes until the next run.
 ghost use mathlib.Core.Path.{_≡_};
-ghost use Rattle.runs.specs.Run.{runOf};
+ghost use Rattle.machine.specs.Run.{runOf};
 use libc::STDOUT_FILENO;
-use runs::Ran;
+use machine::Ran;
 use table::Table;
 
 // A byte as a number to print. A cast that stands by itself needs no proof; in a loop it would.
@@ -23,7 +23,7 @@ fn put(word: &[u8], number: usize) {
 fn run_and_put(t: Table, schedule: &[u8], entries: &mut [u8]) -> Ran
     ensures { λ r. ⌜ r ≡ runOf t (now (schedule .entry)) (now (entries .entry)) ⌝ }
 {
-    let r = runs::run(t, schedule, entries);
+    let r = machine::run(t, schedule, entries);
     let mut count: usize = 0;
     for k in 0..r.entries {
         put(b"entry ", number(entries[k]));

@@ -14,8 +14,8 @@ use Rattle.laws.proofs.Tests.{by-test}
 use Rattle.machine.specs.Step.{stepOf}
 use Rattle.machine.proofs.Steps.{step-machine, step-process}
 use Rattle.courses.specs.Course.{Turn, Course, courseOn, those, processesOf}
-use Rattle.runs.specs.Run.{turnOf, courseOf, isEntry, enteredIn}
-use Rattle.runs.specs.declared.Ran.{Ran}
+use Rattle.machine.specs.Run.{turnOf, courseOf, isEntry, enteredIn}
+use Rattle.machine.specs.declared.Ran.{Ran}
 use Rattle.listing.specs.Text.{ascii, decimal, numbered, lineFeed, numberedLine}
 use Rattle.listing.specs.Listing.{refusedLine, bakeryLine, entryLine, entryLines, countsLine}
 use Rattle.listing.specs.Room.{entryRoom}

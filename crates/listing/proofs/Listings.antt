@@ -8,7 +8,7 @@ use Rattle.fields.specs.Numbers.{scheduleLimit}
 use Rattle.fields.specs.Refusals.{noRefusal, scheduleTooLong, formTooShort}
 use Rattle.table.specs.Fresh.{freshOf}
 use Rattle.table.specs.declared.Started.{Started}
-use Rattle.runs.specs.Run.{courseOf}
+use Rattle.machine.specs.Run.{courseOf}
 use Rattle.listing.specs.Listing.{algorithmIn, countIn, scheduleIn, listerRefusal, refusedLine, report, listingOf}
 
 module _ (input : List ℕ) where

@@ -9,8 +9,8 @@ use Rattle.fields.specs.Refusals.{noRefusal, scheduleTooLong, formTooShort}
 use Rattle.table.specs.Fresh.{freshOf}
 use Rattle.table.specs.declared.Table.{Table}
 use Rattle.courses.specs.Course.{Course}
-use Rattle.runs.specs.Run.{courseOf, enteredIn, answerOf}
-use Rattle.runs.specs.declared.Ran.{Ran}
+use Rattle.machine.specs.Run.{courseOf, enteredIn, answerOf}
+use Rattle.machine.specs.declared.Ran.{Ran}
 use Rattle.listing.specs.Text.{numbered, numberedLine}
 
 -- "algorithm byte, n byte, schedule"

@@ -9,12 +9,12 @@ ghost use lib.Seq.{sets};
 ghost use Rattle.fields.specs.Numbers.{scheduleLimit};
 ghost use Rattle.table.specs.WellFormed.{wellFormed};
 ghost use Rattle.laws.specs.Lent.{Written};
-ghost use Rattle.runs.specs.Run.{courseOf};
+ghost use Rattle.machine.specs.Run.{courseOf};
 ghost use Rattle.listing.specs.Listing.{refusedLine, bakeryLine, entryLine, entryLines, countsLine, report, listingOf};
 ghost use Rattle.listing.specs.Room.{room};
 use fields::SCHEDULE_LIMIT;
 use fields::refusal;
-use runs::Ran;
+use machine::Ran;
 use table::Table;
 use text::put_line;
 use text::put_numbered;
@@ -91,7 +91,7 @@ fn put_report(text: &mut [u8; LISTING_ROOM], t: Table, schedule: &[u8]) -> usize
     ensures { λ r. ⌜ r ≤ room ⌝ }
 {
     let mut entries = [0; SCHEDULE_LIMIT];
-    let r = runs::run(t, schedule, &mut entries);
+    let r = machine::run(t, schedule, &mut entries);
     let count = r.entries;
     let next = put_bakery(text, 0, t.algorithm, t.n);
     let last = put_entries(text, next, &entries[..count]);

@@ -9,7 +9,7 @@ use Rattle.table.specs.WellFormed.{rowOf, wellFormed}
 use Rattle.table.specs.declared.Table.{Table}
 use Rattle.laws.proofs.Tests.{within-low, within-high}
 use Rattle.table.proofs.WellFormed.{table-rules, line-range, index-range}
-use Rattle.rows.specs.Ready.{Ready}
+use Rattle.machine.specs.Ready.{Ready}
 
 pub ready : (t : Table) (i : ℕ) → wellFormed t ≡ true → within 1 (t .n) i ≡ true → (i ≤ slots) × Ready (t .n) (rowOf t i)
 ready t i w p =

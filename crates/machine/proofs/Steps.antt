@@ -16,10 +16,10 @@ use Rattle.table.specs.declared.Row.{Row}
 use Rattle.table.specs.declared.Table.{Table}
 use Rattle.laws.proofs.Tests.{by-test, within-low, within-high}
 use Rattle.table.proofs.WellFormed.{TableRules, RowRules, table-rules, well-formed, token-range}
-use Rattle.rows.specs.Lines.{anyLine}
-use Rattle.rows.specs.declared.Advanced.{Advanced}
-use Rattle.rows.proofs.Keeps.{Sees, Kept, advance-keeps}
-use Rattle.rows.proofs.Marks.{Still, Moved, Marked, advance-marked}
+use Rattle.machine.specs.Lines.{anyLine}
+use Rattle.machine.specs.declared.Advanced.{Advanced}
+use Rattle.machine.proofs.Keeps.{Sees, Kept, advance-keeps}
+use Rattle.machine.proofs.Marks.{Still, Moved, Marked, advance-marked}
 use Rattle.machine.specs.Step.{seenOf, putBack, refusedStep, takenOf, stepOf}
 use Rattle.machine.specs.declared.Stepped.{Stepped}
 

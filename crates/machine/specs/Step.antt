@@ -7,9 +7,9 @@ use Rattle.fields.specs.Refusals.{notWellFormed, badProcessNumber}
 use Rattle.table.specs.WellFormed.{rowOf, wellFormed}
 use Rattle.table.specs.declared.Row.{Row}
 use Rattle.table.specs.declared.Table.{Table}
-use Rattle.rows.specs.Lines.{anyLine}
-use Rattle.rows.specs.declared.Seen.{Seen}
-use Rattle.rows.specs.declared.Advanced.{Advanced}
+use Rattle.machine.specs.Lines.{anyLine}
+use Rattle.machine.specs.declared.Seen.{Seen}
+use Rattle.machine.specs.declared.Advanced.{Advanced}
 use Rattle.machine.specs.declared.Stepped.{Stepped}
 
 -- What the step of row r sees: the choosing flag and the token of process j, j being its index, and X. At index 0 no line looks at the

@@ -1,14 +1,28 @@
-// The two machines of document 01, the unbounded (UB-Bakery) and the bounded (B-Bakery): one step of a table.
-ghost use mathlib.Core.Path.{_≡_};
-ghost use Prim.Native.Nat.{_≤_};
-ghost use Rattle.fields.specs.Numbers.{slots};
-ghost use Rattle.table.specs.WellFormed.{rowOf};
-ghost use Rattle.rows.specs.Ready.{Ready};
-ghost use Rattle.machine.specs.Step.{refusedStep, takenOf, stepOf};
-use fields::Value;
-use fields::refusal;
+// The two machines of document 01, the unbounded (UB-Bakery) and the bounded (B-Bakery): one step of a table, and a run over a schedule.
+mod lines;
+mod rows;
+mod running;
+mod stepping;
+
+pub use running::run;
+pub use stepping::step;
+use table::Row;
 use table::Table;
-use table::place_of;
+
+// What a step sees outside its own row: of the process at its index the choosing flag and the token, and X.
+pub struct Seen {
+    pub choosing: u8,
+    pub token: i32,
+    pub x: i32,
+}
+
+// What comes of a step: its own row, X, the mark and the stop number.
+pub struct Advanced {
+    pub row: Row,
+    pub x: i32,
+    pub mark: u8,
+    pub stop: u8,
+}
 
 // The answer of `step`.
 pub struct Stepped {
@@ -17,47 +31,13 @@ pub struct Stepped {
     pub stop: u8,
 }
 
-// A refusal gives the table back.
-fn refused(t: Table, stop: u8) -> Stepped
-    ensures { λ s. ⌜ s ≡ refusedStep t stop ⌝ }
-{
-    Stepped {
-        table: t,
-        mark: 0,
-        stop,
-    }
-}
-
-// The step of process i: its row is taken out, advanced, and put back.
-fn taken(t: Table, i: u8) -> Stepped
-    requires { ⌜ (i ≤ slots) × Ready (t .n) (rowOf t i) ⌝ }
-    ensures { λ s. ⌜ s ≡ takenOf t i ⌝ }
-{
-    let k = place_of(i);
-    let r = t.rows[k];
-    let j = place_of(r.index);
-    let other = t.rows[j];
-    let a = rows::advance(t.algorithm, t.n, i, rows::seen_of(Value(t.x), other), r);
-    let row = a.row;
-    let mut after = t;
-    after.rows[k] = row;
-    after.x = a.x;
-    Stepped {
-        table: after,
-        mark: a.mark,
-        stop: a.stop,
-    }
-}
-
-// One step of a process: refusals 3, 4, 5.
-pub fn step(t: Table, process: u8) -> Stepped
-    ensures { λ s. ⌜ s ≡ stepOf t process ⌝ }
-{
-    if !table::well_formed(t) {
-        return refused(t, refusal::NOT_WELL_FORMED);
-    }
-    if !fields::number_within(1, t.n, process) {
-        return refused(t, refusal::BAD_PROCESS_NUMBER);
-    }
-    taken(t, process)
+// The answer of `run`.
+pub struct Ran {
+    pub table: Table,
+    pub moved: usize,
+    pub waited: usize,
+    pub entries: usize,
+    pub waiting: usize,
+    pub place: usize,
+    pub stop: u8,
 }

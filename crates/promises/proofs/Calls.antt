@@ -6,7 +6,7 @@ use Rattle.promises.specs.Calls.{ValueOfNumberRelied, ValueEqualsRelied,
 use Rattle.promises.specs.Calls.{LimitOfRelied, AlgorithmOkRelied, CountOkRelied, XOkRelied, LineOkRelied, IndexOkRelied}
 use Rattle.promises.specs.Calls.{ChoosingOkRelied, TokenOkRelied, PivotOkRelied, MayHoldRelied, CellOkRelied, PlaceOfRelied}
 use Rattle.promises.specs.Calls.{XOfRelied, TokenOfRelied, PivotOfRelied, WellFormedRelied, FreshRelied, NextTokenRelied}
-use Rattle.promises.specs.Calls.{GoesBeforeRelied, SeenOfRelied, AdvanceRelied, StepRelied, RunRelied, WriteRelied}
+use Rattle.promises.specs.Calls.{GoesBeforeRelied, StepRelied, RunRelied, WriteRelied}
 use Rattle.promises.specs.Calls.{ReadRelied, ListRelied}
 
 -- two answers that are both the definition's
@@ -88,12 +88,6 @@ next-token-relied = record { every-input = λ κs given. tt; one-answer = same }
 
 pub goes-before-relied : GoesBeforeRelied
 goes-before-relied = record { every-input = λ κs given. tt; one-answer = same }
-
-pub seen-of-relied : SeenOfRelied
-seen-of-relied = record { every-input = λ κs given. tt; one-answer = same }
-
-pub advance-relied : AdvanceRelied
-advance-relied = record { every-input = λ κs given. tt; one-answer = same }
 
 pub step-relied : StepRelied
 step-relied = record { every-input = λ κs given. tt; one-answer = same }

@@ -23,10 +23,8 @@ use Rattle.table.proofs.well_formed
 use Rattle.table.proofs.fresh
 use Rattle.tokens.proofs.next_token
 use Rattle.tokens.proofs.goes_before
-use Rattle.rows.proofs.seen_of
-use Rattle.rows.proofs.advance
 use Rattle.machine.proofs.step
-use Rattle.runs.proofs.run
+use Rattle.machine.proofs.run
 use Rattle.stored.proofs.write
 use Rattle.stored.proofs.read
 use Rattle.listing.proofs.list
@@ -108,18 +106,10 @@ NextTokenRelied = Answers 0 next_token.Kinds.ps next_token.Kinds.r next_token.Re
 abbrev pub GoesBeforeRelied : Type 0
 GoesBeforeRelied = Answers 0 goes_before.Kinds.ps goes_before.Kinds.r goes_before.Reads.Asked goes_before.Reads.Learnt
 
--- `rows`: one step over a row
-abbrev pub SeenOfRelied : Type 0
-SeenOfRelied = Answers 0 seen_of.Kinds.ps seen_of.Kinds.r seen_of.Reads.Asked seen_of.Reads.Learnt
-
-abbrev pub AdvanceRelied : Type 0
-AdvanceRelied = Answers 0 advance.Kinds.ps advance.Kinds.r advance.Reads.Asked advance.Reads.Learnt
-
--- `machine`: one step of a table
+-- `machine`: one step of a table, and a run; the entry buffer of the run is the third parameter
 abbrev pub StepRelied : Type 0
 StepRelied = Answers 0 step.Kinds.ps step.Kinds.r step.Reads.Asked step.Reads.Learnt
 
--- `runs`: a run; the entry buffer is the third parameter
 abbrev pub RunRelied : Type 0
 RunRelied = AnswersAndLeaves 2 run.Kinds.ps run.Kinds.r run.Reads.Asked run.Reads.Learnt (λ κs e. now (e .1 .1 .0))
 

@@ -4,7 +4,7 @@ use Prim.Native.Nat.{_-_, _≤_}
 use mathlib.Core.Logic.{⊎-elim}
 use lib.ListN.{length}
 use native.Mathlib.Omega.{arith}
-use Rattle.runs.proofs.Runs.{entries-within}
+use Rattle.machine.proofs.Runs.{entries-within}
 use borrow.Author.Needs.{needs}
 use Rattle.example.proofs.run_and_put.Statement.{statement}
 use Rattle.example.proofs.run_and_put.Tie as tie

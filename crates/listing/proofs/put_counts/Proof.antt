@@ -4,7 +4,7 @@ use mathlib.Core.List.{List, _++_}
 use lib.ListN.{length}
 use Rattle.laws.specs.Lent.{Written}
 use Rattle.laws.proofs.Writes.{and-then, room-first, room-next}
-use Rattle.runs.specs.declared.Ran.{Ran}
+use Rattle.machine.specs.declared.Ran.{Ran}
 use Rattle.listing.specs.Text.{ascii, numbered, numberedLine}
 use Rattle.listing.specs.Listing.{countsLine}
 use Rattle.listing.specs.Room.{room}

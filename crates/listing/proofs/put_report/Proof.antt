@@ -12,9 +12,9 @@ use Rattle.laws.specs.Lent.{inFront}
 use Rattle.laws.proofs.Writes.{and-then}
 use Rattle.courses.specs.Course.{Course}
 use Rattle.courses.proofs.Counts.{processes-count}
-use Rattle.runs.specs.Run.{courseOf, isEntry, enteredIn, entriesIn, answerOf, runRefusal}
-use Rattle.runs.specs.declared.Ran.{Ran}
-use Rattle.runs.proofs.Runs.{run-accepted, run-answer, run-buffer}
+use Rattle.machine.specs.Run.{courseOf, isEntry, enteredIn, entriesIn, answerOf, runRefusal}
+use Rattle.machine.specs.declared.Ran.{Ran}
+use Rattle.machine.proofs.Runs.{run-accepted, run-answer, run-buffer}
 use Rattle.listing.specs.Listing.{entryLines, countsLine, report}
 use Rattle.listing.specs.Room.{entryRoom}
 use Rattle.listing.proofs.Lengths.{bakery-short, lines-short, counts-short}

@@ -1,4 +1,0 @@
-pub mod ByLine
-pub mod Keeps
-pub mod Marks
-pub mod Ready

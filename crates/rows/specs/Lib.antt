@@ -1,3 +1,0 @@
-pub mod Setters
-pub mod Lines
-pub mod Ready
