@@ -5,6 +5,7 @@
 README's program is that of crates/example, letter by letter; the sample in docs/WALK.md has its bytes and its listing;
 files and must-fail edits that a page names are there; docs/PROMISES.md has the theorems of crates/promises, and
 docs/READING.md the crates of crates.txt and the steps of the gate. What else a page says is for its reader to check.
+The notes in docs/notes/ are left out: each tells of one change, and may name what a later one takes away.
 """
 
 import glob
@@ -19,8 +20,7 @@ import files
 import gate
 import public_calls
 
-PAGES = ["README.md"] + sorted(os.path.relpath(path, files.ROOT)
-                               for path in glob.glob(files.whole("docs/**/*.md"), recursive=True))
+PAGES = ["README.md"] + sorted(os.path.relpath(path, files.ROOT) for path in glob.glob(files.whole("docs/*.md")))
 NAMED_PATH = re.compile(r"(?<![\w/.-])((?:crates|docs|tests|samples)/[\w./-]*\w)")
 NAMED_FILE = re.compile(r"`(\w+\.(?:antt|rt|txt|py))`")
 

@@ -3,8 +3,8 @@
     python3 tests/run_cost.py [N ...]
 
 It is no part of the gate. For both machines and each N (3 and 16 if none is given) it prints the instructions a byte of
-the library's run, those of the loop in tests/run_cost.c, and the ratio of the two. The schedules are pseudo-random and
-the same for both; beside them stands the share of their bytes whose step waits.
+the library's run, those of the loop in tests/run_cost.c, and the ratio of the two. The schedules are pseudo-random, or
+such that nobody waits, and the same for both; beside them stands the share of their bytes whose step waits.
 
 The library's run is built by `rt staticlib`, as C can call it, and the loop by the same compiler at the same level: the
 clang of the Rattle kit at -O3, for x86-64. The kit's emulator counts the instructions. A run over a schedule less a run
@@ -64,7 +64,15 @@ COMPILER_WORDS = ("--target=" + TARGET, "-march=x86-64", "-O3", "-fPIE", "-ffunc
 COUNTING_WORDS = ("-one-insn-per-tb", "-d", "exec,nochain")  # the emulator then writes a line for each instruction
 
 MACHINES = (("unbounded", bakery.UNBOUNDED), ("bounded", bakery.BOUNDED))
-MAKERS = (("uniform", schedules.uniform), ("bursty", schedules.bursty))
+
+
+def alone(chance, algorithm, n, length):
+    """One passage after another, each by a process alone, so that nobody waits."""
+    passage = 3 * n + 5
+    return bytes(1 + k // passage % n for k in range(length))
+
+
+MAKERS = (("uniform", schedules.uniform), ("bursty", schedules.bursty), ("alone", alone))
 FRONT, LENGTH = 2000, 8000  # bytes: measured is the loop over those between
 Counts = collections.namedtuple("Counts", "moved waited entries waiting place stop")
 ANSWER = struct.Struct("<6Q")  # what the program writes: these counts, and after them the entries

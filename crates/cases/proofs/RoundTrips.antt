@@ -4,11 +4,11 @@ use mathlib.Core.Path.{_≡_, _∙_}
 use mathlib.Core.List.{List}
 use borrow.Author.Tests.{eqb-true}
 use lib.Dec.{eqb}
-use lib.ListN.{length, take}
+use lib.ListN.{take}
+use Rattle.laws.proofs.Tests.{by-test}
 use Rattle.fields.specs.Refusals.{noRefusal}
 use Rattle.table.specs.Sized.{Sized}
 use Rattle.table.specs.declared.Table.{Table}
-use Rattle.laws.proofs.Tests.{by-test}
 use Rattle.stored.specs.Writing.{writeOf, bufferOf}
 use Rattle.stored.specs.Reading.{readOf}
 use Rattle.stored.specs.declared.Restored.{Restored}

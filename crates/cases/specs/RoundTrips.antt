@@ -6,8 +6,8 @@ use mathlib.Core.Bool.{cond}
 use mathlib.Core.List.{List, []}
 use lib.Dec.{eqb}
 use lib.ListN.{length}
-use Rattle.fields.specs.Refusals.{noRefusal}
 use Rattle.laws.specs.Lent.{inFront}
+use Rattle.fields.specs.Refusals.{noRefusal}
 use Rattle.table.specs.declared.Table.{Table}
 use Rattle.stored.specs.Form.{formLength}
 use Rattle.stored.specs.Writing.{writeOf}

@@ -70,11 +70,11 @@ fn number_of(r: Row, k: usize) -> i32
     requires { do ⌜ k < (← ⟦NUMBERS⟧) ⌝ }
 {
     match k {
-        0 => r.line as i32,
-        1 => r.index as i32,
-        2 => r.choosing as i32,
-        3 => r.token,
-        4 => r.pivot,
+        0 => r.core.line as i32,
+        1 => r.core.index as i32,
+        2 => r.core.choosing as i32,
+        3 => r.core.token,
+        4 => r.core.pivot,
         _ => r.cells[k - FIELDS],
     }
 }

@@ -5,6 +5,7 @@ use crate::lent::part;
 use crate::printing::put;
 use fields::NONE;
 use fields::SLOTS;
+use table::Core;
 use table::Row;
 use table::Table;
 
@@ -62,21 +63,25 @@ fn next_cells(file: i32) -> [i32; SLOTS] {
     cells
 }
 
-fn next_row(file: i32) -> Row {
+fn next_core(file: i32) -> Core {
     let line = next_byte(file);
     let index = next_byte(file);
     let choosing = next_byte(file);
     let token = next_number(file);
     let pivot = next_number(file);
-    let cells = next_cells(file);
-    Row {
+    Core {
         line,
         index,
         choosing,
         token,
         pivot,
-        cells,
     }
+}
+
+fn next_row(file: i32) -> Row {
+    let core = next_core(file);
+    let cells = next_cells(file);
+    Row { core, cells }
 }
 
 pub(crate) fn next_table(file: i32) -> Table {

@@ -71,11 +71,13 @@ fn row_agrees(m: u32, unbounded: Row, bounded: Row) -> bool
     requires { ⌜ 0 < m ⌝ }
     ensures { λ b. ⌜ b ≡ rowAgrees m unbounded bounded ⌝ }
 {
-    (unbounded.line == bounded.line)
-        & (unbounded.index == bounded.index)
-        & (unbounded.choosing == bounded.choosing)
-        & is_remainder(m, table::token_of(unbounded), table::token_of(bounded))
-        & is_remainder(m, table::pivot_of(unbounded), table::pivot_of(bounded))
+    let u = unbounded.core;
+    let b = bounded.core;
+    (u.line == b.line)
+        & (u.index == b.index)
+        & (u.choosing == b.choosing)
+        & is_remainder(m, table::token_of(u), table::token_of(b))
+        & is_remainder(m, table::pivot_of(u), table::pivot_of(b))
         & cells_agree(m, unbounded, bounded)
 }
 
@@ -116,7 +118,7 @@ fn critical_at(t: Table, k: usize) -> u8
     ensures { λ c. ⌜ c ≤ 1 ⌝ }
 {
     let r = t.rows[k];
-    if fields::number_within(8, 10, r.line) {
+    if fields::number_within(8, 10, r.core.line) {
         return 1;
     }
     0

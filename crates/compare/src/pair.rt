@@ -35,7 +35,7 @@ fn line_of(t: Table, process: u8) -> u8 {
     if SLOTS <= k {
         return 0;
     }
-    t.rows[k].line
+    t.rows[k].core.line
 }
 
 // "8: X takes the token; line 9. This step is the entry."

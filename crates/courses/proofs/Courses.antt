@@ -10,8 +10,8 @@ use borrow.Author.Tests.{eqb-true, eqb-false, eq-eqb, ne-eqb}
 use lib.Dec.{eqb}
 use lib.ListN.{length, getD, take, drop}
 use lib.Seq.{take-suc, split-at}
-use Rattle.fields.specs.Refusals.{noRefusal}
 use Rattle.laws.proofs.Tests.{by-test, of-choice}
+use Rattle.fields.specs.Refusals.{noRefusal}
 use Rattle.courses.specs.Course.{Machine, Turn, Course, turnOn, standsAt, begunBy, courseOn, those, movedIn, waitedIn, processesOf}
 use Rattle.courses.proofs.Counts.{processes-append, counts-none, counts-first}
 

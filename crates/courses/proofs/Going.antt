@@ -6,9 +6,9 @@ use mathlib.Core.List.{List, [], _∷_, _++_}
 use native.Mathlib.Omega.{arith}
 use lib.ListN.{length, getD, take, set, length-append, length-set}
 use lib.Seq.{take-all}
-use Rattle.fields.specs.Refusals.{noRefusal}
 use Rattle.laws.specs.Lent.{inFront}
 use Rattle.laws.proofs.Tests.{by-test}
+use Rattle.fields.specs.Refusals.{noRefusal}
 use Rattle.courses.specs.Course.{Machine, Turn, Course, turnOn, courseOn, those, changed, movedIn, waitedIn, processesOf}
 use Rattle.courses.proofs.Counts.{count-most, count-more, moved-more, noted}
 use Rattle.courses.proofs.Courses.{byte-taken, byte-refused, Keeps, Marks, bytes-taken}

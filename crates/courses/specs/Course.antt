@@ -8,7 +8,7 @@ use lib.ListN.{length}
 use Rattle.fields.specs.Refusals.{noRefusal}
 
 -- A machine over tables T: the table after a step of process i, the mark and the stop number of the step, and the line at which process i
--- stands.
+-- stands. (The theory's `Machine` is another: the next token, and who goes before.)
 pub record Machine (T : Type 0) : Type 0 where
   pub after : T → ℕ → T
   pub mark : T → ℕ → ℕ
@@ -40,8 +40,7 @@ module _ {T : Type 0} (m : Machine T) where
   abbrev pub turnOn : T → ℕ → Turn
   turnOn t i = record { process = i; line = m .line t i; mark = m .mark t i }
 
-  -- "A run does the steps of demand 2 one after another." "The run takes them in order and stops at the first byte refused." "4 and 5 of run
-  -- keep the steps and entries before that byte."
+  -- "The run takes them in order and stops at the first byte refused." "4 and 5 of run keep the steps and entries before that byte."
   unfoldable pub courseOn : T → List ℕ → Course T
   courseOn t [] = standsAt t noRefusal
   courseOn t (i ∷ later) =
@@ -69,14 +68,3 @@ unchanged u = eqb (u .mark) 0
 
 abbrev pub waitedIn : List Turn → ℕ
 waitedIn us = length (those unchanged us)
-
--- "Entries is the count of line 8 steps taken": the line of the entry is said by the machine's own crate
-abbrev pub isEntryAt : ℕ → Turn → Bool
-isEntryAt entry u = eqb (u .line) entry
-
-abbrev pub entriesAt : ℕ → List Turn → ℕ
-entriesAt entry us = length (those (isEntryAt entry) us)
-
--- "The process number of each entry", "in order"
-abbrev pub enteredAt : ℕ → List Turn → List ℕ
-enteredAt entry us = processesOf (those (isEntryAt entry) us)

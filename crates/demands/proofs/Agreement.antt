@@ -8,14 +8,15 @@ use lib.Dec.{eqb}
 use lib.IntN.{ℤ, pos, negsuc}
 use lib.ListN.{length}
 use Rattle.laws.specs.Tests.{within, howMany}
+use Rattle.laws.proofs.Tests.{by-order, and-both, every-all, many-at-most-one}
 use Rattle.fields.specs.Numbers.{slots, firstLine, lastLine, modulusOf}
 use Rattle.fields.specs.Rules.{indexOk, choosingOk}
 use Rattle.table.specs.WellFormed.{rowOf, cellOf, cellRule}
+use Rattle.table.specs.declared.Core.{Core}
 use Rattle.table.specs.declared.Row.{Row}
 use Rattle.table.specs.declared.Table.{Table}
-use Rattle.laws.proofs.Tests.{and-both, every-all, many-at-most-one}
-use Rattle.table.proofs.WellFormed.{RowRules, table-rules, line-range, above-fresh}
-use Rattle.theory.proofs.Counting.{Process, by-order}
+use Rattle.table.proofs.WellFormed.{CoreRules, RowRules, table-rules, line-range, above-fresh}
+use Rattle.theory.proofs.Counting.{Process}
 use Rattle.theory.proofs.Tokens.{modulus, reduced}
 use Rattle.theory.proofs.Model.{Place, at1, at2, at3, at4, at5, at6, at7, at8, at9, at10}
 use Rattle.theory.proofs.Model as model
@@ -98,45 +99,45 @@ number-agrees others (negsuc v) (negsuc w) l e = eq-eqb w 0 (omega (arith, leb-t
 
 -- Rows.
 
--- a row that keeps its rules: the place in its view shows its line, its index, and whether the line is one of 8 to 10
-module _ {top : ℤ} {n i : ℕ} {r : Row} (rules : RowRules top n i r) where
-  range : within firstLine lastLine (r .line) ≡ true
-  range = line-range n i (r .line) (rules .line)
+-- a core that keeps its rules: its place shows its line, its index, and whether the line is one of 8 to 10
+module _ {top : ℤ} {n i : ℕ} {c : Core} (rules : CoreRules top n i c) where
+  range : within firstLine lastLine (c .line) ≡ true
+  range = line-range n i (c .line) (rules .line)
 
-  line-shown : lineOf (rowView r .place) ≡ r .line
-  line-shown = line-of-place (r .index) (r .line) range
+  line-shown : lineOf (placeOf (c .line) (c .index)) ≡ c .line
+  line-shown = line-of-place (c .index) (c .line) range
 
-  index-shown : indexOf (rowView r .place) ≡ r .index
-  index-shown = index-of-place n i (r .index) (r .line) range (rules .index)
+  index-shown : indexOf (placeOf (c .line) (c .index)) ≡ c .index
+  index-shown = index-of-place n i (c .index) (c .line) range (rules .index)
 
-  critical-shown : theory.isCritical (rowView r .place) ≡ isCriticalLine (r .line)
-  critical-shown = critical-place (r .index) (r .line) range
+  critical-shown : theory.isCritical (placeOf (c .line) (c .index)) ≡ isCriticalLine (c .line)
+  critical-shown = critical-place (c .index) (c .line) range
 
 -- two rows that keep their rules, where the view of the second is the remainders of the first's
 module _ {others i n₁ n₂ : ℕ} {top₁ top₂ : ℤ} {u b : Row} (rules-u : RowRules top₁ n₁ i u) (rules-b : RowRules top₂ n₂ i b)
     (viewed : rowView b ≡ rowReduced others (rowView u)) where
   -- they agree in line, index and choosing flag
-  same-line : b .line ≡ u .line
-  same-line = sym (line-shown rules-b) ∙ ap (λ (r : model.Row). lineOf (r .place)) viewed ∙ line-shown rules-u
+  same-line : b .core .line ≡ u .core .line
+  same-line = sym (line-shown (rules-b .core)) ∙ ap (λ (r : model.Row). lineOf (r .place)) viewed ∙ line-shown (rules-u .core)
 
-  same-index : b .index ≡ u .index
-  same-index = sym (index-shown rules-b) ∙ ap (λ (r : model.Row). indexOf (r .place)) viewed ∙ index-shown rules-u
+  same-index : b .core .index ≡ u .core .index
+  same-index = sym (index-shown (rules-b .core)) ∙ ap (λ (r : model.Row). indexOf (r .place)) viewed ∙ index-shown (rules-u .core)
 
-  same-choosing : b .choosing ≡ u .choosing
+  same-choosing : b .core .choosing ≡ u .core .choosing
   same-choosing =
-      choosing-of-line (b .line) (b .choosing) (rules-b .choosing)
+      choosing-of-line (b .core .line) (b .core .choosing) (rules-b .core .choosing)
       ∙ ap (λ (line : ℕ). cond (within 2 5 line) 1 0) same-line
-      ∙ sym (choosing-of-line (u .line) (u .choosing) (rules-u .choosing))
+      ∙ sym (choosing-of-line (u .core .line) (u .core .choosing) (rules-u .core .choosing))
 
   -- and token, pivot and each cell of the second is the remainder of the first's
-  token-agrees : isRemainder (modulus others) (u .token) (b .token) ≡ true
+  token-agrees : isRemainder (modulus others) (u .core .token) (b .core .token) ≡ true
   token-agrees =
-      number-agrees others (u .token) (b .token) (token-from-none top₂ (b .line) (b .token) (rules-b .token))
+      number-agrees others (u .core .token) (b .core .token) (token-from-none top₂ (b .core .line) (b .core .token) (rules-b .core .token))
       (ap (λ (r : model.Row). r .token) viewed)
 
-  pivot-agrees : isRemainder (modulus others) (u .pivot) (b .pivot) ≡ true
+  pivot-agrees : isRemainder (modulus others) (u .core .pivot) (b .core .pivot) ≡ true
   pivot-agrees =
-      number-agrees others (u .pivot) (b .pivot) (pivot-from-none top₂ (b .line) (b .pivot) (rules-b .pivot))
+      number-agrees others (u .core .pivot) (b .core .pivot) (pivot-from-none top₂ (b .core .line) (b .core .pivot) (rules-b .core .pivot))
       (ap (λ (r : model.Row). r .pivot) viewed)
 
   module _ (cells-u : length (u .cells) ≡ slots) (cells-b : length (b .cells) ≡ slots) where
@@ -151,9 +152,9 @@ module _ {others i n₁ n₂ : ℕ} {top₁ top₂ : ℤ} {u b : Row} (rules-u :
     unfolding rowAgrees
     row-agrees =
         and-both (and-both (and-both (and-both (and-both
-        (eq-eqb (u .line) (b .line) (sym same-line))
-        (eq-eqb (u .index) (b .index) (sym same-index)))
-        (eq-eqb (u .choosing) (b .choosing) (sym same-choosing)))
+        (eq-eqb (u .core .line) (b .core .line) (sym same-line))
+        (eq-eqb (u .core .index) (b .core .index) (sym same-index)))
+        (eq-eqb (u .core .choosing) (b .core .choosing) (sym same-choosing)))
         token-agrees)
         pivot-agrees)
         (every-all (cellAgrees (modulus others) u b) slots cell-agrees)
@@ -169,7 +170,7 @@ module _ (n : ℕ) (u b : Table) {algorithm₁ algorithm₂ : ℕ} (for-u : Tabl
       rw (row-from1 u (for-u .sized) i low high, row-from1 b (for-b .sized) i low high) (ap (λ (s : model.State). s .row i) viewed)
 
   -- row i of both is at the same line
-  pub line-view : (i : ℕ) → 1 ≤ i → i ≤ slots → rowOf b i .line ≡ rowOf u i .line
+  pub line-view : (i : ℕ) → 1 ≤ i → i ≤ slots → rowOf b i .core .line ≡ rowOf u i .core .line
   line-view i low high =
       same-line (table-rules u (for-u .formed) .rows i low high) (table-rules b (for-b .formed) .rows i low high) (row-viewed i low high)
 
@@ -208,7 +209,7 @@ at-most-one-view n t for exclusive =
     -- and the view shows which are at lines 8 to 10
     critical : (i : ℕ) → 1 ≤ i → i ≤ slots → isCritical t i ≡ true → theory.isCritical (view t .row i .place) ≡ true
     critical i low high c =
-        rw (sym (row-from1 t (for .sized) i low high)) (critical-shown (table-rules t (for .formed) .rows i low high) ∙ c)
+        rw (sym (row-from1 t (for .sized) i low high)) (critical-shown (table-rules t (for .formed) .rows i low high .core) ∙ c)
 
     -- so no two are
     apart : (i j : ℕ) → 1 ≤ i → i < j → j ≤ slots → isCritical t i ≡ true → isCritical t j ≡ true → ⊥

@@ -9,18 +9,18 @@ use lib.Dec.{leb, leb·zero}
 use lib.IntN.{ℤ, pos}
 use lib.ListN.{length, replicate, length-replicate}
 use Rattle.laws.specs.Tests.{every, howMany}
+use Rattle.laws.specs.Lent.{inFront}
+use Rattle.laws.proofs.Tests.{_and_, within-low, within-high, every-at}
 use Rattle.fields.specs.Numbers.{slots, unbounded, bounded, tokenLimit, scheduleLimit}
 use Rattle.fields.specs.Refusals.{noRefusal}
 use Rattle.fields.specs.Rules.{algorithmOk, countOk}
 use Rattle.table.specs.WellFormed.{rowOf, wellFormed}
-use Rattle.table.specs.Fresh.{allNone, freshRow, freshTable}
-use Rattle.laws.specs.Lent.{inFront}
+use Rattle.table.specs.Fresh.{freshCore, allNone, freshRow, freshTable}
 use Rattle.table.specs.declared.Row.{Row}
 use Rattle.table.specs.declared.Table.{Table}
-use Rattle.laws.proofs.Tests.{_and_, within-low, within-high, every-at}
 use Rattle.table.proofs.WellFormed.{fresh-well-formed}
 use Rattle.machine.specs.Setters.{withLine, withIndex, withToken}
-use Rattle.machine.specs.Lines.{line4, lineStep, anyLine}
+use Rattle.machine.specs.Lines.{line4, lineStep, anyLine, cellsAfter, advanceOf}
 use Rattle.machine.specs.Step.{takenOf, stepOf}
 use Rattle.courses.specs.Course.{Course, courseOn, those}
 use Rattle.machine.specs.Run.{enteredIn, answerOf, runRefusal, runOf, bufferOf}
@@ -31,7 +31,7 @@ use Rattle.machine.proofs.Runs.{run-answer, run-buffer}
 use Rattle.demands.specs.Bench.{onBoth, forEachCount, lentFor, ran, entered, stepWaits, atLine4, alternating, threeOnes, benchCases}
 use Rattle.demands.specs.Bench.{allHold}
 use Rattle.demands.specs.Bench as cases
-use Rattle.demands.proofs.Computed.{numbers, plain, fresh-plain, rules, tokens, steps, runs, plainly}
+use Rattle.demands.proofs.Computed.{unread, numbers, plain, fresh-plain, rules, tokens, steps, runs, plainly}
 
 -- A run of process numbers from a fresh table is not refused, and comes to what its plain course gives.
 module _ (algorithm n : ℕ) (schedule : List ℕ) (known : algorithmOk algorithm ≡ true) (count : countOk n ≡ true)
@@ -86,7 +86,7 @@ pair algorithm x first second =
     record { algorithm = algorithm; n = 2; x = x; rows = first ∷ second ∷ replicate (slots - 2) freshRow }
 
 abbrev row : ℕ → ℕ → ℤ → Row
-row line index token = withLine line (withIndex index (withToken token freshRow))
+row line index token = unread (withLine line (withIndex index (withToken token freshCore)))
 
 -- both hold token 1, and process 2 waits for process 1
 abbrev waiting : ℕ → Table
@@ -163,10 +163,11 @@ unfolding rules
 at-limit = refl
 
 last-token : forEachCount cases.lastToken
-unfolding tokens line4 lineStep anyLine takenOf
+unfolding tokens line4 lineStep anyLine cellsAfter advanceOf takenOf
 last-token n ok =
     let below = taken (pos 999_999) below-limit in
-    ((refl, ap (λ (s : Stepped). s .stop) below, ap (λ (s : Stepped). rowOf (s .table) 1 .token) below), taken (pos tokenLimit) at-limit)
+    let token = ap (λ (s : Stepped). rowOf (s .table) 1 .core .token) below in
+    ((refl, ap (λ (s : Stepped). s .stop) below, token), taken (pos tokenLimit) at-limit)
   where
     taken : (pivot : ℤ) → every (λ (m : ℕ). wellFormed (picking pivot m)) slots ≡ true
         → stepOf (picking pivot n) 1 ≡ takenOf (picking pivot n) 1

@@ -4,20 +4,26 @@ use mathlib.Core.Path.{_≡_, refl}
 use mathlib.Core.Bool.{Bool, true, _&&_}
 use mathlib.Core.List.{List, [], _∷_, flatten}
 use Rattle.laws.specs.Tests.{within, every, howMany}
+use Rattle.laws.proofs.Tests.{and-halves}
 use Rattle.fields.specs.Numbers.{limitOf}
 use Rattle.fields.specs.Rules.{algorithmOk, countOk, lineOk, indexOk, choosingOk, tokenOk, pivotOk, mayHold, cellOk}
-use Rattle.table.specs.WellFormed.{rowOf, cellRule, cellsOk, rowOk, rowRule, rowsOk, wellFormed}
-use Rattle.table.specs.Fresh.{freshTable}
+use Rattle.table.specs.WellFormed.{rowOf, cellRule, cellsOk, coreOk, rowOk, rowRule, rowsOk, wellFormed}
+use Rattle.table.specs.Fresh.{allNone, freshTable}
 use Rattle.table.specs.Sized.{Sized}
+use Rattle.table.specs.declared.Core.{Core}
+use Rattle.table.specs.declared.Row.{Row}
 use Rattle.table.specs.declared.Table.{Table}
-use Rattle.laws.proofs.Tests.{and-halves}
 use Rattle.table.proofs.WellFormed.{fresh-well-formed, fresh-sized}
 use Rattle.tokens.specs.Tokens.{remainder, largest, nextUb, shifted, shiftedCell, nextB, beforeUb, beforeB, nextToken, goesBefore}
-use Rattle.machine.specs.Lines.{nextOther, goesOn, line2, line4, line5, line6, line7, lineStep, anyLine}
+use Rattle.machine.specs.Lines.{nextOther, goesOn, line2, line4, line5, line6, line7, lineStep, anyLine, cellsAfter, advanceOf}
 use Rattle.machine.specs.Step.{takenOf, stepOf}
 use Rattle.courses.specs.Course.{Machine, Course, courseOn, those}
 use Rattle.machine.specs.Run.{courseOf, runRefusal, runOf, bufferOf}
 use Rattle.machine.proofs.Steps.{step-taken, step-machine, step-well-formed, step-sized}
+
+-- a row with this core, and no token in its read cells
+abbrev pub unread : Core → Row
+unread c = record { core = c; cells = allNone }
 
 -- whether each byte is the number of one of n processes
 unfoldable pub numbers : ℕ → List ℕ → Bool
@@ -30,10 +36,11 @@ untested = record {
   after = λ t i. takenOf t i .table;
   mark = λ t i. takenOf t i .mark;
   stop = λ t i. takenOf t i .stop;
-  line = λ t i. rowOf t i .line;
+  line = λ t i. rowOf t i .core .line;
 }
 
--- the course of such bytes from a well-formed table: it stays well formed, so that no step needs to test it
+-- Its course. Of process numbers, from a well-formed table, it is the course itself (`is-plain`): the table stays well formed, so that no step
+-- needs to test it.
 abbrev pub plain : Table → List ℕ → Course Table
 plain = courseOn untested
 
@@ -56,7 +63,8 @@ fresh-plain algorithm n schedule known count =
 -- What the definitions compute by. To unfold one of these names is to unfold the list under it.
 
 unfoldable pub rules : Unit {0}
-unfolding every howMany limitOf lineOk indexOk choosingOk tokenOk pivotOk mayHold cellOk cellRule cellsOk rowOk rowRule rowsOk wellFormed
+unfolding every howMany limitOf lineOk indexOk choosingOk tokenOk pivotOk mayHold cellOk
+    cellRule cellsOk coreOk rowOk rowRule rowsOk wellFormed
 rules = tt
 
 unfoldable pub tokens : Unit {0}
@@ -65,7 +73,7 @@ tokens = tt
 
 -- a step of a table that is known to be well formed
 taken : Unit {0}
-unfolding tokens nextOther goesOn line2 line4 line5 line6 line7 lineStep anyLine takenOf
+unfolding tokens nextOther goesOn line2 line4 line5 line6 line7 lineStep anyLine cellsAfter advanceOf takenOf
 taken = tt
 
 unfoldable pub steps : Unit {0}

@@ -6,11 +6,11 @@ use native.Mathlib.Omega.{arith}
 use borrow.Author.Tests.{leb-true, eq-eqb}
 use lib.IntN.{ℤ, pos, negsuc, natAbs}
 use Rattle.laws.specs.Tests.{withinℤ}
+use Rattle.laws.proofs.Tests.{and-halves}
 use Rattle.fields.specs.Numbers.{bounded, none, isNone, limitOf}
 use Rattle.table.specs.WellFormed.{rowOf}
 use Rattle.table.specs.Fresh.{freshTable}
 use Rattle.table.specs.declared.Table.{Table}
-use Rattle.laws.proofs.Tests.{and-halves}
 use Rattle.table.proofs.WellFormed.{table-rules, token-range}
 use Rattle.machine.specs.Run.{courseOf}
 use Rattle.theory.proofs.Counting.{Process}
@@ -18,7 +18,7 @@ use Rattle.theory.proofs.Tokens.{held, modulus, ahead}
 use Rattle.theory.proofs.Model.{State, fresh}
 use Rattle.theory.proofs.Mirrors.{one-arc}
 use Rattle.theory.proofs.Mirrors as theory
-use Rattle.demands.specs.ForEver.{Holds, aheadOf, OneArc, HeldTogether, BoundedForEver}
+use Rattle.demands.specs.ForEver.{Holds, aheadOf, HeldTogether, BoundedForEver}
 use Rattle.demands.proofs.Views.{tokenOf, view}
 use Rattle.demands.proofs.From1.{row-from1}
 use Rattle.demands.proofs.Tables.{some-process, in-table}
@@ -45,15 +45,15 @@ shown-held (negsuc a) number e = absurd (omega (arith, e))
 
 module _ (n : ℕ) (b : Table) (s : State) (m : Mirrors n b s) where
   -- the token of a process that holds one is a number below 2n - 1, and the view shows it
-  token-number : (i : ℕ) → Holds n b i → Number (2 * n - 2) (rowOf b i .token)
+  token-number : (i : ℕ) → Holds n b i → Number (2 * n - 2) (rowOf b i .core .token)
   unfolding limitOf
   token-number i h =
       let rules = table-rules b (m .table .formed) .rows i (h .low) (in-table (m .table) (h .high)) in
-      let range = token-range (limitOf (b .algorithm) (b .n)) (rowOf b i .line) (rowOf b i .token) (rules .token) in
-      held-number (2 * n - 2) (rowOf b i .token) (rw (m .table .machine, m .table .count) at range) (h .token)
+      let range = token-range (limitOf (b .algorithm) (b .n)) (rowOf b i .core .line) (rowOf b i .core .token) (rules .core .token) in
+      held-number (2 * n - 2) (rowOf b i .core .token) (rw (m .table .machine, m .table .count) at range) (h .token)
 
-  token-shown : (i : ℕ) → 1 ≤ i → i ≤ n → view b .row i .token ≡ tokenOf (rowOf b i .token)
-  token-shown i low high = ap (λ r. tokenOf (r .token)) (sym (row-from1 b (m .table .sized) i low (in-table (m .table) high)))
+  token-shown : (i : ℕ) → 1 ≤ i → i ≤ n → view b .row i .token ≡ tokenOf (rowOf b i .core .token)
+  token-shown i low high = ap (λ r. tokenOf (r .core .token)) (sym (row-from1 b (m .table .sized) i low (in-table (m .table) high)))
 
   process : {i : ℕ} → Holds n b i → Process (suc (n - 1)) i
   process h = record { low = h .low; high = omega (arith, h .high) }
@@ -87,7 +87,7 @@ module _ (n : ℕ) (b : Table) (s : State) (m : Mirrors n b s) where
       high : in-view .from ≤ n
       high = omega (arith, in-view .process .high, some-process (m .table))
 
-      first-shown : (rowOf b (in-view .from) .token ≡ pos (in-view .number)) × (isNone (rowOf b (in-view .from) .token) ≡ false)
+      first-shown : (rowOf b (in-view .from) .core .token ≡ pos (in-view .number)) × (isNone (rowOf b (in-view .from) .core .token) ≡ false)
       first-shown = shown-held _ (in-view .number) (sym (token-shown (in-view .from) low high) ∙ in-view .holds)
 
       first : Holds n b (in-view .from)

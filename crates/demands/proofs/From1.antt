@@ -10,14 +10,13 @@ use lib.IntN.{ℤ}
 use lib.ListN.{length, getD, replicate, List·getD-eq-default, List·getD-map}
 use lib.ListN as list
 use lib.Seq.{getD-set-same, getD-set-other}
+use Rattle.laws.proofs.Tests.{by-order, by-equality, of-choice}
 use Rattle.fields.specs.Numbers.{slots, none}
 use Rattle.table.specs.WellFormed.{rowOf, cellOf}
 use Rattle.table.specs.Fresh.{allNone, freshRow, freshTable}
 use Rattle.table.specs.Sized.{Sized}
 use Rattle.table.specs.declared.Row.{Row}
 use Rattle.table.specs.declared.Table.{Table}
-use Rattle.laws.proofs.Tests.{of-choice}
-use Rattle.theory.proofs.Counting.{by-order, by-equality}
 use Rattle.theory.proofs.Tokens.{Token}
 use Rattle.theory.proofs.Tokens as theory
 use Rattle.theory.proofs.Model.{at1, set, fresh}

@@ -5,6 +5,7 @@ pub mod Views
 pub mod From1
 pub mod RowFacts
 pub mod TokenViews
+pub mod CoreViews
 pub mod RowViews
 pub mod Tables
 pub mod StepViews

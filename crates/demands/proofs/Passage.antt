@@ -14,24 +14,25 @@ use lib.Signed.{ltZ}
 use lib.ListN.{length, set, replicate, length-append, length-replicate, length-map, getD-replicate}
 use lib.Seq.{getD-set-same, getD-set-other, set-getD, set-set}
 use Rattle.laws.specs.Tests.{within, howMany}
+use Rattle.laws.proofs.Tests.{by-equality, and-both, within-high, within-yes}
 use Rattle.fields.specs.Numbers.{slots, none, unbounded, modulusOf, tokenLimit}
 use Rattle.fields.specs.Refusals.{noRefusal}
 use Rattle.fields.specs.Rules.{algorithmOk, countOk}
 use Rattle.table.specs.WellFormed.{rowOf, noRow}
-use Rattle.table.specs.Fresh.{allNone, freshRow, freshTable}
+use Rattle.table.specs.Fresh.{freshCore, allNone, freshRow, freshTable}
+use Rattle.table.specs.declared.Core.{Core}
 use Rattle.table.specs.declared.Row.{Row}
 use Rattle.table.specs.declared.Table.{Table}
-use Rattle.laws.proofs.Tests.{and-both, within-high, within-yes}
 use Rattle.tokens.specs.Tokens.{remainder, largest, shifted, shiftedCell, nextUb, nextB, nextToken}
 use Rattle.tokens.specs.Answers.{isAboveLimit}
 use Rattle.machine.specs.Setters.{withLine, withIndex, withChoosing, withToken, withPivot}
-use Rattle.machine.specs.Lines.{moves, nextOther, goesOn, line2, line4, line5, line6, line7, lineStep, anyLine}
-use Rattle.machine.specs.Step.{seenOf, takenOf}
+use Rattle.machine.specs.Lines.{moves, nextOther, goesOn, line2, line4, line5, line6, line7, lineStep, anyLine, cellsAfter, advanceOf}
+use Rattle.machine.specs.Step.{seenIn, takenOf}
+use Rattle.machine.proofs.Arms.{leaves}
 use Rattle.courses.specs.Course.{Course, standsAt, courseOn, those, movedIn, waitedIn}
 use Rattle.machine.specs.Run.{courseOf, entriesIn, answerOf}
-use Rattle.theory.proofs.Counting.{by-equality}
 use Rattle.demands.specs.Passage.{passageLines, movesFrom, leftBehind, passageLength, passageAnswer, PassageAlone}
-use Rattle.demands.proofs.Computed.{numbers, plain, fresh-plain}
+use Rattle.demands.proofs.Computed.{unread, numbers, plain, fresh-plain}
 use Rattle.demands.proofs.TokenViews.{difference-round, sum-first}
 
 -- a list of copies of a, with a put anew
@@ -65,38 +66,39 @@ first-token algorithm n some = by-machine (eqb algorithm unbounded)
 
 -- Process i alone.
 module _ (algorithm n i : ℕ) (low : 1 ≤ i) (high : i ≤ n) (most : n ≤ slots) where
-  -- the fresh table, but for X and row i
-  abbrev standing : ℤ → Row → Table
-  standing x r = record { algorithm = algorithm; n = n; x = x; rows = set (replicate slots freshRow) (i - 1) r }
+  -- the fresh table, but for X and the core of row i
+  abbrev standing : ℤ → Core → Table
+  standing x c = record { algorithm = algorithm; n = n; x = x; rows = set (replicate slots freshRow) (i - 1) (unread c) }
 
-  own : (x : ℤ) (r : Row) → rowOf (standing x r) i ≡ r
-  own x r = getD-set-same (replicate slots freshRow) (i - 1) r noRow (omega (arith, length-replicate slots freshRow))
+  own : (x : ℤ) (c : Core) → rowOf (standing x c) i ≡ unread c
+  own x c = getD-set-same (replicate slots freshRow) (i - 1) (unread c) noRow (omega (arith, length-replicate slots freshRow))
 
-  other : (x : ℤ) (r : Row) (j : ℕ) → 1 ≤ j → j ≤ n → (j ≡ i → ⊥) → rowOf (standing x r) j ≡ freshRow
-  other x r j l h apart =
-      getD-set-other (replicate slots freshRow) (i - 1) (j - 1) r noRow (λ e. apart (omega arith))
+  other : (x : ℤ) (c : Core) (j : ℕ) → 1 ≤ j → j ≤ n → (j ≡ i → ⊥) → rowOf (standing x c) j ≡ freshRow
+  other x c j l h apart =
+      getD-set-other (replicate slots freshRow) (i - 1) (j - 1) (unread c) noRow (λ e. apart (omega arith))
       ∙ getD-replicate slots (j - 1) freshRow noRow (omega arith)
 
-  all-fresh : (x : ℤ) → standing x freshRow ≡ record { algorithm = algorithm; n = n; x = x; rows = replicate slots freshRow }
+  all-fresh : (x : ℤ) → standing x freshCore ≡ record { algorithm = algorithm; n = n; x = x; rows = replicate slots freshRow }
   all-fresh x =
       ap (λ (rows : List Row). record { algorithm = algorithm; n = n; x = x; rows = rows })
       (set-copy freshRow slots (i - 1) (omega arith))
 
-  -- a step of process i that moves
-  taken : (x y : ℤ) (r w : Row) → anyLine algorithm n i (seenOf (standing x r) r) r ≡ moves y w
-      → takenOf (standing x r) i ≡ record { table = standing y w; mark = 1; stop = noRefusal }
+  -- a step of process i that moves, and after which its cells hold no token either
+  abbrev Moves : ℤ → ℤ → Core → Core → Type 0
+  Moves x y c d = advanceOf algorithm n i (seenIn x (rowOf (standing x c) (c .index) .core)) (unread c) ≡ leaves (moves y d) allNone
+
+  taken : (x y : ℤ) (c d : Core) → Moves x y c d → takenOf (standing x c) i ≡ record { table = standing y d; mark = 1; stop = noRefusal }
   unfolding takenOf
-  taken x y r w e = rw (own x r, e, set-set (replicate slots freshRow) (i - 1) r w)
+  taken x y c d e = rw (own x c, e, set-set (replicate slots freshRow) (i - 1) (unread c) (unread d))
 
   -- from a table on, its steps at these lines all move, and end the passage
   abbrev Walks : Table → List ℕ → Type 0
   Walks t lines =
       plain t (replicate (length lines) i) ≡ record { turns = map (movesFrom i) lines; table = leftBehind algorithm n; stop = noRefusal }
 
-  walk : (x y : ℤ) (r w : Row) (lines : List ℕ) → anyLine algorithm n i (seenOf (standing x r) r) r ≡ moves y w
-      → Walks (standing y w) lines → Walks (standing x r) (r .line ∷ lines)
+  walk : (x y : ℤ) (c d : Core) (lines : List ℕ) → Moves x y c d → Walks (standing y d) lines → Walks (standing x c) (c .line ∷ lines)
   unfolding courseOn
-  walk x y r w lines e later = rw (taken x y r w e, own x r, later)
+  walk x y c d lines e later = rw (taken x y c d e, ap (λ (r : Row). r .core .line) (own x c), later)
 
   -- the token that it takes, which is not above the limit
   abbrev token : ℤ
@@ -110,27 +112,27 @@ module _ (algorithm n i : ℕ) (low : 1 ≤ i) (high : i ≤ n) (most : n ≤ sl
       by-machine true = refl
       by-machine false = refl
 
-  -- its row while it holds the token, and before, while it is choosing
-  abbrev holding : ℕ → ℕ → Row
-  holding line index = withLine line (withIndex index (withToken token freshRow))
+  -- its core while it holds the token, and before, while it is choosing
+  abbrev holding : ℕ → ℕ → Core
+  holding line index = withLine line (withIndex index (withToken token freshCore))
 
-  abbrev choosing : ℕ → ℕ → ℤ → Row
-  choosing line index pivot = withLine line (withIndex index (withChoosing 1 (withPivot pivot freshRow)))
+  abbrev choosing : ℕ → ℕ → ℤ → Core
+  choosing line index pivot = withLine line (withIndex index (withChoosing 1 (withPivot pivot freshCore)))
 
   -- lines 8 to 10
-  ends : Walks (standing token freshRow) []
+  ends : Walks (standing token freshCore) []
   unfolding courseOn
   ends =
       ap (λ (t : Table). standsAt t noRefusal) (all-fresh token)
       ∙ ap (λ (x : ℤ). standsAt (record { algorithm = algorithm; n = n; x = x; rows = replicate slots freshRow }) noRefusal)
       (first-token algorithm n (omega arith))
 
-  leaves : Walks (standing (pos 0) (holding 8 0)) (8 ∷ 9 ∷ 10 ∷ [])
-  unfolding lineStep anyLine
-  leaves =
+  from-line-8 : Walks (standing (pos 0) (holding 8 0)) (8 ∷ 9 ∷ 10 ∷ [])
+  unfolding lineStep anyLine cellsAfter advanceOf
+  from-line-8 =
       walk (pos 0) token (holding 8 0) (holding 9 0) (9 ∷ 10 ∷ []) refl
       (walk token token (holding 9 0) (holding 10 0) (10 ∷ []) refl
-      (walk token token (holding 10 0) freshRow [] refl ends))
+      (walk token token (holding 10 0) freshCore [] refl ends))
 
   -- lines 6 and 7, for each of k others
   abbrev looks : ℕ → List ℕ
@@ -140,7 +142,7 @@ module _ (algorithm n i : ℕ) (low : 1 ≤ i) (high : i ≤ n) (most : n ≤ sl
   to-next : (j next line index : ℕ) (lines : List ℕ) → nextOther i j ≡ next → 1 ≤ next → next ≤ n → (next ≡ i → ⊥)
       → Walks (standing (pos 0) (goesOn n i next (holding 7 next))) lines
       → Walks (standing (pos 0) (goesOn n i j (holding line index))) (6 ∷ 7 ∷ lines)
-  unfolding goesOn lineStep anyLine line6 line7
+  unfolding goesOn lineStep anyLine line6 line7 cellsAfter advanceOf
   to-next j next line index lines is l h apart later =
       rw (is, le-leb next n h)
       (walk (pos 0) (pos 0) (holding 6 next) (holding 7 next) (7 ∷ lines) (rw (other (pos 0) (holding 6 next) next l h apart))
@@ -149,7 +151,7 @@ module _ (algorithm n i : ℕ) (low : 1 ≤ i) (high : i ≤ n) (most : n ≤ sl
 
   to-line-8 : (j line index : ℕ) → n < nextOther i j → Walks (standing (pos 0) (goesOn n i j (holding line index))) (8 ∷ 9 ∷ 10 ∷ [])
   unfolding goesOn
-  to-line-8 j line index none-left = rw (lt-leb (nextOther i j) n none-left) leaves
+  to-line-8 j line index none-left = rw (lt-leb (nextOther i j) n none-left) from-line-8
 
   -- the next other number, where the next number is i and where it is not
   skips : (j : ℕ) → suc j ≡ i → nextOther i j ≡ suc (suc j)
@@ -187,7 +189,7 @@ module _ (algorithm n i : ℕ) (low : 1 ≤ i) (high : i ≤ n) (most : n ≤ sl
   afterReading = 3 ∷ 4 ∷ 5 ∷ looks (n - 1)
 
   takes-token : Walks (standing (pos 0) (choosing 3 0 none)) afterReading
-  unfolding lineStep anyLine line4 line5
+  unfolding lineStep anyLine line4 line5 cellsAfter advanceOf
   takes-token =
       walk (pos 0) (pos 0) (choosing 3 0 none) (choosing 4 0 (pos 0)) (4 ∷ 5 ∷ looks (n - 1)) refl
       (walk (pos 0) (pos 0) (choosing 4 0 (pos 0)) (withChoosing 1 (holding 5 0)) (5 ∷ looks (n - 1)) (rw not-above)
@@ -195,17 +197,17 @@ module _ (algorithm n i : ℕ) (low : 1 ≤ i) (high : i ≤ n) (most : n ≤ sl
       (looks-at-others (n - 1) 0 5 0 (with-own (omega arith) (omega arith)))))
 
   -- line 2: no process has a token, nor has i itself, so the cells stay as they are
-  none-seen : (r : Row) (j : ℕ) → r .token ≡ none → 1 ≤ j → j ≤ n → rowOf (standing (pos 0) r) j .token ≡ none
-  none-seen r j own-none l h =
+  none-seen : (c : Core) (j : ℕ) → c .token ≡ none → 1 ≤ j → j ≤ n → rowOf (standing (pos 0) c) j .core .token ≡ none
+  none-seen c j own-none l h =
       by-equality j i
-      (λ same. rw (same, own (pos 0) r) own-none)
-      (λ apart. rw (other (pos 0) r j l h apart))
+      (λ same. rw (same, own (pos 0) c) own-none)
+      (λ apart. rw (other (pos 0) c j l h apart))
 
-  reads-none : (j : ℕ) → 1 ≤ j → j ≤ n → set allNone (j - 1) (rowOf (standing (pos 0) (choosing 2 j none)) j .token) ≡ allNone
+  reads-none : (j : ℕ) → 1 ≤ j → j ≤ n → set allNone (j - 1) (rowOf (standing (pos 0) (choosing 2 j none)) j .core .token) ≡ allNone
   reads-none j l h = rw (none-seen (choosing 2 j none) j refl l h) (set-copy none slots (j - 1) (omega arith))
 
   reads : (k j : ℕ) → 1 ≤ j → j + k ≡ n → Walks (standing (pos 0) (choosing 2 j none)) (replicate (suc k) 2 ++ afterReading)
-  unfolding lineStep anyLine line2
+  unfolding lineStep anyLine line2 cellsAfter advanceOf
   reads zero j l count =
       walk (pos 0) (pos 0) (choosing 2 j none) (choosing 3 0 none) afterReading
       (rw (reads-none j l (omega arith), eq-eqb j n (omega arith)))
@@ -217,11 +219,11 @@ module _ (algorithm n i : ℕ) (low : 1 ≤ i) (high : i ≤ n) (most : n ≤ sl
 
   -- and line 1
   passes-alone : Walks (freshTable algorithm n) (passageLines n)
-  unfolding lineStep anyLine
+  unfolding lineStep anyLine cellsAfter advanceOf
   passes-alone =
       let count : suc (n - 1) ≡ n = omega arith in
       subst (λ (t : Table). Walks t (passageLines n)) (all-fresh (pos 0))
-      (walk (pos 0) (pos 0) freshRow (choosing 2 1 none) (replicate n 2 ++ afterReading) refl
+      (walk (pos 0) (pos 0) freshCore (choosing 2 1 none) (replicate n 2 ++ afterReading) refl
       (subst (λ (k : ℕ). Walks (standing (pos 0) (choosing 2 1 none)) (replicate k 2 ++ afterReading)) count
       (reads (n - 1) 1 (omega arith) (omega arith))))
 

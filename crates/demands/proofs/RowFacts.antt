@@ -7,9 +7,9 @@ use lib.Dec.{eqb}
 use lib.IntN.{ℤ, pos, negsuc}
 use lib.Signed.{leZ}
 use Rattle.laws.specs.Tests.{within, withinℤ}
+use Rattle.laws.proofs.Tests.{up-to-next, by-test, and-halves, within-low, within-high}
 use Rattle.fields.specs.Numbers.{firstLine, lastLine, none, isNone}
 use Rattle.fields.specs.Rules.{tokenOk, pivotOk, cellOk}
-use Rattle.laws.proofs.Tests.{up-to-next, by-test, and-halves, within-low, within-high}
 use Rattle.table.proofs.WellFormed.{is-none}
 
 -- what holds of each of the ten lines holds of a line that is 1 to 10

@@ -6,13 +6,13 @@ use native.Mathlib.Omega.{arith}
 use lib.IntN.{ℤ, pos}
 use lib.ListN.{replicate}
 use Rattle.laws.specs.Tests.{within, every, howMany}
+use Rattle.laws.proofs.Tests.{up-to-next}
 use Rattle.fields.specs.Numbers.{slots, unbounded, bounded}
 use Rattle.fields.specs.Refusals.{noRefusal}
 use Rattle.table.specs.WellFormed.{rowOf}
-use Rattle.table.specs.Fresh.{freshRow, freshTable}
+use Rattle.table.specs.Fresh.{freshCore, freshRow, freshTable}
 use Rattle.table.specs.declared.Row.{Row}
 use Rattle.table.specs.declared.Table.{Table}
-use Rattle.laws.proofs.Tests.{up-to-next}
 use Rattle.tokens.specs.Tokens.{remainder}
 use Rattle.machine.specs.Setters.{withLine, withIndex, withChoosing, withToken}
 use Rattle.courses.specs.Course.{Course, courseOn}
@@ -23,11 +23,11 @@ use Rattle.demands.specs.Agreement.{f, isRemainder, rowAgrees, rowAtAgre
 use Rattle.demands.specs.ForEver.{Holds, aheadOf, OneArc, HeldTogether}
 use Rattle.demands.specs.Sharp.{after, secondToken, NotEmpty, stateAfter, NotModuloOneLess, sevenEach, TwoAtLine7, sixEach}
 use Rattle.demands.specs.Sharp.{threeTokens, NotNearer}
-use Rattle.demands.proofs.Computed.{fresh-plain, plainly}
+use Rattle.demands.proofs.Computed.{unread, fresh-plain, plainly}
 
 -- a row that has just taken a token
 abbrev holding : ℤ → Row
-holding token = withLine 5 (withChoosing 1 (withToken token freshRow))
+holding token = unread (withLine 5 (withChoosing 1 (withToken token freshCore)))
 
 abbrev second : Table
 second = record { algorithm = unbounded; n = 2; x = pos 1; rows = holding (pos 2) ∷ replicate (slots - 1) freshRow }
@@ -53,7 +53,7 @@ abbrev looking : Table
 looking = record { algorithm = bounded; n = 2; x = pos 0; rows = row 2 ∷ row 1 ∷ replicate (slots - 2) freshRow }
   where
     row : ℕ → Row
-    row index = withLine 7 (withIndex index (withToken (pos 1) freshRow))
+    row index = unread (withLine 7 (withIndex index (withToken (pos 1) freshCore)))
 
 are-looking : after bounded 2 sevenEach ≡ looking
 unfolding plainly
@@ -61,7 +61,7 @@ are-looking = ap (λ (c : Course Table). c .table) (fresh-plain bounded 2 sevenE
 
 pub two-at-line-7 : TwoAtLine7
 unfolding howMany
-two-at-line-7 = ap (λ (t : Table). howMany (λ i. within 7 10 (rowOf t i .line)) slots) are-looking
+two-at-line-7 = ap (λ (t : Table). howMany (λ i. within 7 10 (rowOf t i .core .line)) slots) are-looking
 
 abbrev three : Table
 three = record {

@@ -9,13 +9,13 @@ use lib.Dec.{eqb}
 use lib.ListN.{length, take}
 use lib.Seq.{take-length}
 use Rattle.laws.specs.Tests.{within}
+use Rattle.laws.proofs.Tests.{by-test, and-both, many-same}
 use Rattle.fields.specs.Numbers.{slots, unbounded, bounded}
 use Rattle.fields.specs.Refusals.{noRefusal}
 use Rattle.fields.specs.Rules.{countOk}
 use Rattle.table.specs.WellFormed.{rowOf}
 use Rattle.table.specs.Fresh.{freshTable}
 use Rattle.table.specs.declared.Table.{Table}
-use Rattle.laws.proofs.Tests.{by-test, and-both, many-same}
 use Rattle.machine.specs.Step.{stepOf}
 use Rattle.machine.proofs.Steps.{step-process}
 use Rattle.courses.specs.Course.{Course, begunBy, courseOn, movedIn, waitedIn}
@@ -58,7 +58,7 @@ module _ (n : ℕ) (u b : Table) (beside : Beside n u b) where
       (mirror-at-most-one n b (view u) m)
 
   -- their rows are at the same lines
-  same-line : (i : ℕ) → 1 ≤ i → i ≤ slots → rowOf b i .line ≡ rowOf u i .line
+  same-line : (i : ℕ) → 1 ≤ i → i ≤ slots → rowOf b i .core .line ≡ rowOf u i .core .line
   same-line = line-view n u b (beside .table) (beside .mirrors .table) (beside .mirrors .state .shows)
 
   -- so as many wait
@@ -98,13 +98,13 @@ module _ (n : ℕ) (u b : Table) (beside : Beside n u b) where
 record Courses (n : ℕ) (u b : Course Table) : Type 0 where
   stop : b .stop ≡ noRefusal
   turns : b .turns ≡ u .turns
-  tables : Beside n (u .table) (b .table)
+  last : Beside n (u .table) (b .table)
 
 -- over the bytes until the unbounded machine refuses one
 courses-until : (n : ℕ) (u b : Table) (schedule : List ℕ) → Beside n u b
     → Courses n (courseOf u schedule) (courseOf b (takenIn (courseOf u schedule) schedule))
 unfolding courseOn
-courses-until n u b [] beside = record { stop = refl; turns = refl; tables = beside }
+courses-until n u b [] beside = record { stop = refl; turns = refl; last = beside }
 courses-until n u b (i ∷ later) beside =
     by-test (λ (c : Course Table). Courses n c (courseOf b (takenIn c (i ∷ later)))) (eqb (stepOf u i .stop) noRefusal)
     (λ t.
@@ -113,8 +113,8 @@ courses-until n u b (i ∷ later) beside =
     let rest = courses-until n next (stepOf b i .table) later (step-beside n u b beside i taken) in
     subst (Courses n (begunBy (turnOf u i ∷ []) (courseOf next later)))
     (sym (course-first tables b i (takenIn (courseOf next later) later) (also-taken n u b beside i taken)))
-    (record { stop = rest .stop; turns = λ at. same-turn n u b beside i taken at ∷ rest .turns at; tables = rest .tables }))
-    (λ _. record { stop = refl; turns = refl; tables = beside })
+    (record { stop = rest .stop; turns = λ at. same-turn n u b beside i taken at ∷ rest .turns at; last = rest .last }))
+    (λ _. record { stop = refl; turns = refl; last = beside })
 
 -- and over all bytes where it refuses none
 courses : (n : ℕ) (u b : Table) (schedule : List ℕ) → Beside n u b → courseOf u schedule .stop ≡ noRefusal
@@ -127,12 +127,12 @@ courses n u b schedule beside accepted =
 pub demand-3 : Demand3
 demand-3 n c schedule accepted =
     let both = courses n _ _ schedule (fresh-beside n c) accepted in
-    (both .stop, beside-meets n _ _ (both .tables))
+    (both .stop, beside-meets n _ _ (both .last))
 
 pub until-refused : UntilRefused
 until-refused n c schedule =
     let both = courses-until n _ _ schedule (fresh-beside n c) in
-    (both .stop, beside-meets n _ _ (both .tables))
+    (both .stop, beside-meets n _ _ (both .last))
 
 -- Both count alike.
 same-counts : (n : ℕ) (u b : Course Table) → Courses n u b → u .stop ≡ noRefusal → SameCounts (answerOf u) (answerOf b)
@@ -141,7 +141,7 @@ same-counts n u b both accepted =
       moved = ap movedIn (both .turns);
       waited = ap waitedIn (both .turns);
       entries = ap entriesIn (both .turns);
-      waiting = same-waiting n (u .table) (b .table) (both .tables);
+      waiting = same-waiting n (u .table) (b .table) (both .last);
       place = ap length (both .turns);
       stop = both .stop ∙ sym accepted;
     }
@@ -173,7 +173,7 @@ module _ (n : ℕ) (u b : Table) (beside : Beside n u b) (p : Piece) (stop : run
   both-run = courses n u b (p .schedule) beside none-refused
 
   run-tables : Beside n (runOf u (p .schedule) (p .buffer) .table) (runOf b (p .schedule) (p .buffer) .table)
-  run-tables = rw (answer, also-answer) (both-run .tables)
+  run-tables = rw (answer, also-answer) (both-run .last)
 
   run-counts : SameCounts (runOf u (p .schedule) (p .buffer)) (runOf b (p .schedule) (p .buffer))
   run-counts = rw (answer, also-answer) (same-counts n _ _ both-run none-refused)

@@ -5,30 +5,32 @@ use mathlib.Core.Bool.{Bool, true, false, cond, not}
 use native.Mathlib.Omega.{arith}
 use borrow.Author.Tests.{eqb-true}
 use lib.Dec.{eqb}
+use lib.IntN.{ℤ}
+use lib.ListN as list
+use Rattle.laws.proofs.Tests.{by-test, within-yes}
 use Rattle.fields.specs.Numbers.{slots, bounded}
 use Rattle.fields.specs.Refusals.{noRefusal}
 use Rattle.table.specs.WellFormed.{rowOf, wellFormed}
 use Rattle.table.specs.Fresh.{freshRow}
 use Rattle.table.specs.Sized.{Sized}
+use Rattle.table.specs.declared.Core.{Core}
 use Rattle.table.specs.declared.Row.{Row}
 use Rattle.table.specs.declared.Table.{Table}
-use Rattle.laws.proofs.Tests.{by-test, within-yes}
 use Rattle.table.proofs.WellFormed.{table-rules}
-use Rattle.machine.specs.Lines.{passes, line2, line4, line5, line6, line7, anyLine}
-use Rattle.machine.specs.declared.Seen.{Seen}
-use Rattle.machine.specs.declared.Advanced.{Advanced}
-use Rattle.machine.proofs.ByLine.{by-line}
-use Rattle.machine.specs.Step.{seenOf, putBack, takenOf, stepOf}
+use Rattle.machine.specs.Lines.{advanceOf}
+use Rattle.machine.specs.Step.{seenOf, takenOf, stepOf}
 use Rattle.machine.specs.declared.Stepped.{Stepped}
+use Rattle.machine.proofs.Only.{only-4-refuses}
 use Rattle.machine.proofs.Steps.{step-taken, step-process}
 use Rattle.theory.proofs.Tokens.{Token}
 use Rattle.theory.proofs.Model.{Place, State, isChoosing, set, put, moves, step}
 use Rattle.theory.proofs.Model as model
-use Rattle.demands.proofs.Views.{tokenOf, rowView, view, machineOf}
+use Rattle.demands.proofs.Views.{tokenOf, cellsView, rowView, view, machineOf}
 use Rattle.demands.proofs.From1.{from1-set-view, row-from1}
 use Rattle.demands.proofs.RowFacts.{token-from-none}
 use Rattle.demands.proofs.Tables.{TableFor}
-use Rattle.demands.proofs.RowViews.{choosing-view, ShowsOther, Shows, Follows, advance-view}
+use Rattle.demands.proofs.CoreViews.{choosing-view, ShowsOther, Shows, Follows}
+use Rattle.demands.proofs.RowViews.{advance-view}
 
 -- to put what is there changes nothing, so a choice of what is put is a choice of states
 put-same : (s : State) (i : ℕ) → put s i (s .x) (s .row i) ≡ s
@@ -43,11 +45,12 @@ put-choice s i true x r = refl
 put-choice s i false x r = put-same s i
 
 -- the view of a table in which a row and X are put back
-view-put : (t : Table) (i : ℕ) (a : Advanced) → Sized t → 1 ≤ i → i ≤ slots
-    → view (putBack t i a) ≡ put (view t) i (tokenOf (a .x)) (rowView (a .row))
-view-put t i a z low high =
-    ap (λ (row : ℕ → model.Row). record { x = tokenOf (a .x); row = row })
-    (from1-set-view freshRow rowView (t .rows) i (a .row) low (omega (arith, z .rows)))
+view-put : (t : Table) (i : ℕ) (x : ℤ) (r : Row) → Sized t → 1 ≤ i → i ≤ slots
+    → view (record { algorithm = t .algorithm; n = t .n; x = x; rows = list.set (t .rows) (i - 1) r })
+    ≡ put (view t) i (tokenOf x) (rowView r)
+view-put t i x r z low high =
+    ap (λ (row : ℕ → model.Row). record { x = tokenOf x; row = row })
+    (from1-set-view freshRow rowView (t .rows) i r low (omega (arith, z .rows)))
 
 -- The step of process i of a table, and its mark, are those of the theory's machine.
 pub record StepSeen (algorithm n : ℕ) (t : Table) (i : ℕ) : Type 0 where
@@ -66,9 +69,6 @@ module _ (t : Table) (i : ℕ) (w : wellFormed t ≡ true) (z : Sized t) (accept
   taken : stepOf t i ≡ takenOf t i
   taken = step-taken t i w (within-yes 1 (t .n) i low high)
 
-  abbrev advanced : Advanced
-  advanced = anyLine (t .algorithm) (t .n) i (seenOf t (rowOf t i)) (rowOf t i)
-
   -- what it sees is in the view
   within-slots : {j : ℕ} → j ≤ t .n → j ≤ slots
   within-slots h = omega (arith, table-rules t w .most)
@@ -76,41 +76,49 @@ module _ (t : Table) (i : ℕ) (w : wellFormed t ≡ true) (z : Sized t) (accept
   row-view : (j : ℕ) → 1 ≤ j → j ≤ t .n → view t .row j ≡ rowView (rowOf t j)
   row-view j l h = ap rowView (sym (row-from1 t z j l (within-slots h)))
 
-  shown : Shows (t .n) i (view t) (seenOf t (rowOf t i)) (rowOf t i)
-  shown = record { own = row-view i low high; x = refl; other = other (rowOf t i .index) }
+  -- the core of the row of the process that the index names
+  abbrev other : Core
+  other = rowOf t (rowOf t i .core .index) .core
+
+  shown : Shows (t .n) i (view t) (t .x) other (rowOf t i .core) (cellsView (rowOf t i .cells))
+  shown = record { own = row-view i low high; shared = refl; named = named (rowOf t i .core .index) }
     where
-      other : (j : ℕ) → 1 ≤ j → j ≤ t .n
-          → ShowsOther (view t) j (record { choosing = rowOf t j .choosing; token = rowOf t j .token; x = t .x })
-      other j l h =
-          let rules = table-rules t w .rows j l (within-slots h) in
+      named : (j : ℕ) → 1 ≤ j → j ≤ t .n → ShowsOther (view t) j (rowOf t j .core)
+      named j l h =
+          let rules = table-rules t w .rows j l (within-slots h) .core in
           record {
             token = ap (λ (r : model.Row). r .token) (row-view j l h);
             least = token-from-none _ _ _ (rules .token);
             choosing = ap (λ (r : model.Row). not (isChoosing (r .place))) (row-view j l h) ∙ choosing-view rules;
           }
 
-  -- so it leaves what the theory's step leaves
-  followed : Follows (t .algorithm) (t .n) i (view t) (view t .row i .place) advanced
+  -- so it leaves what the theory's step leaves, at the place that the row shows
+  abbrev FollowsAt : Place → Type 0
+  FollowsAt place =
+      let a = advanceOf (t .algorithm) (t .n) i (seenOf t i) (rowOf t i) in
+      Follows (t .algorithm) (t .n) i (view t) place (rowView (a .row)) (a .x) (a .mark)
+
+  followed : FollowsAt (view t .row i .place)
   unfolding takenOf
   followed =
       let rules = table-rules t w in
-      let place = ap (λ (r : model.Row). r .place) (sym (shown .own)) in
-      subst (λ (p : Place). Follows (t .algorithm) (t .n) i (view t) p advanced) place
-      (advance-view (t .algorithm) (t .n) i (view t) (seenOf t (rowOf t i)) (rowOf t i) (rules .some) (rules .most)
+      subst FollowsAt (ap (λ (r : model.Row). r .place) (sym (shown .own)))
+      (advance-view (t .algorithm) (t .n) i (view t) (t .x) other (rowOf t i) (rules .some) (rules .most)
       (z .cells i low (within-slots high)) shown (rules .rows i low (within-slots high))
       (ap (λ (u : Stepped). u .stop) (sym taken) ∙ accepted))
 
   step-view : view (stepOf t i .table) ≡ step (t .n - 1) (machineOf (t .algorithm) (t .n - 1)) (view t) i
   unfolding takenOf
   step-view =
+      let a = advanceOf (t .algorithm) (t .n) i (seenOf t i) (rowOf t i) in
       ap (λ (u : Stepped). view (u .table)) taken
-      ∙ view-put t i advanced z low (within-slots high)
-      ∙ (λ at. put (view t) i (followed .x at) (followed .row at))
+      ∙ view-put t i (a .x) (a .row) z low (within-slots high)
+      ∙ (λ at. put (view t) i (followed .written at) (followed .row at))
       ∙ put-choice (view t) i (moves (machineOf (t .algorithm) (t .n - 1)) (view t) i) _ _
 
   mark-view : stepOf t i .mark ≡ cond (moves (machineOf (t .algorithm) (t .n - 1)) (view t) i) 1 0
   unfolding takenOf
-  mark-view = ap (λ (u : Stepped). u .mark) taken ∙ followed .mark
+  mark-view = ap (λ (u : Stepped). u .mark) taken ∙ followed .marked
 
 -- The theorem: seen through the view, a step that is not refused is the step of the theory's machine of that algorithm, for that many
 -- processes, and its mark is 1 just where that machine moves.
@@ -120,30 +128,9 @@ step-seen {algorithm} t i for accepted =
     (subst (λ (a : ℕ). StepSeen a (t .n) t i) (for .machine)
     (record { table = step-view t i (for .formed) (for .sized) accepted; mark = mark-view t i (for .formed) (for .sized) accepted }))
 
--- The bounded machine refuses no step of a process.
-abbrev Accepted : Advanced → Type 0
-Accepted a = a .stop ≡ noRefusal
-
-bounded-advances : (n i : ℕ) (seen : Seen) (r : Row) → Accepted (anyLine bounded n i seen r)
-unfolding line2 line4 line5 line6 line7
-bounded-advances n i seen r =
-    by-line bounded n i seen r Accepted
-    (record {
-      at1 = λ _. refl;
-      at2 = λ _. by-test Accepted (eqb (r .index) n) (λ _. refl) (λ _. refl);
-      at3 = λ _. refl;
-      at4 = λ _. refl;
-      at5 = λ _. refl;
-      at6 = λ _. by-test Accepted (eqb (seen .choosing) 0) (λ _. refl) (λ _. refl);
-      at7 = λ _. by-test Accepted (passes bounded n i seen r) (λ _. refl) (λ _. refl);
-      at8 = λ _. refl;
-      at9 = λ _. refl;
-      at10 = λ _. refl;
-      elsewhere = refl;
-    })
-
+-- The bounded machine refuses no step of a process: line 4 alone refuses, and that a token of the unbounded one.
 pub bounded-accepts : {n : ℕ} (t : Table) (i : ℕ) → TableFor bounded n t → 1 ≤ i → i ≤ n → stepOf t i .stop ≡ noRefusal
-unfolding takenOf
+unfolding takenOf advanceOf
 bounded-accepts t i for low high =
     ap (λ (u : Stepped). u .stop) (step-taken t i (for .formed) (within-yes 1 (t .n) i low (omega (arith, for .count))))
-    ∙ rw (for .machine) (bounded-advances (t .n) i (seenOf t (rowOf t i)) (rowOf t i))
+    ∙ rw (for .machine) (only-4-refuses bounded (t .n) i _ (seenOf t i) (rowOf t i .core) (λ _. refl))

@@ -11,8 +11,8 @@ use lib.Dec.{ltb, eqb, leb·suc-suc, eqb·suc-suc}
 use lib.IntN.{ℤ, pos, negsuc, negℤ, _+ℤ_, _-ℤ_, +ℤ-assoc, +ℤ-comm}
 use lib.ListN.{length, length-map}
 use Rattle.laws.specs.Tests.{within, withinℤ}
-use Rattle.fields.specs.Numbers.{none, unbounded, tokenLimit, limitOf, topOf, modulusOf}
 use Rattle.laws.proofs.Tests.{by-test, within-high}
+use Rattle.fields.specs.Numbers.{none, unbounded, tokenLimit, limitOf, topOf, modulusOf}
 use Rattle.tokens.specs.Tokens.{remainder, larger, nextUb, nextB, beforeUb, beforeB, nextToken, goesBefore}
 use Rattle.tokens.specs.Tokens as machine
 use Rattle.theory.proofs.Counting.{largest}

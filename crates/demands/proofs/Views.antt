@@ -8,6 +8,7 @@ use lib.IntN.{ℤ, pos, negsuc}
 use lib.ListN.{getD}
 use Rattle.fields.specs.Numbers.{unbounded, none}
 use Rattle.table.specs.Fresh.{freshRow}
+use Rattle.table.specs.declared.Core.{Core}
 use Rattle.table.specs.declared.Row.{Row}
 use Rattle.table.specs.declared.Table.{Table}
 use Rattle.theory.proofs.Tokens.{Token, held, Machine, unboundedMachine, boundedMachine}
@@ -39,17 +40,20 @@ abbrev pub from1 : {A : Type 0} → A → List A → ℕ → A
 from1 d l zero = d
 from1 d l (suc k) = getD l k d
 
--- the read cells of a row, a row, and a table
+-- What the read cells of a row show; what a core shows, beside cells that show this; a row; a table.
 abbrev pub cellsView : List ℤ → ℕ → Token
 cellsView cells j = tokenOf (from1 none cells j)
 
-abbrev pub rowView : Row → model.Row
-rowView r = record {
-  place = placeOf (r .line) (r .index);
-  token = tokenOf (r .token);
-  pivot = tokenOf (r .pivot);
-  cell = cellsView (r .cells);
+abbrev pub coreView : Core → (ℕ → Token) → model.Row
+coreView c cell = record {
+  place = placeOf (c .line) (c .index);
+  token = tokenOf (c .token);
+  pivot = tokenOf (c .pivot);
+  cell = cell;
 }
+
+abbrev pub rowView : Row → model.Row
+rowView r = coreView (r .core) (cellsView (r .cells))
 
 abbrev pub view : Table → State
 view t = record { x = tokenOf (t .x); row = λ i. rowView (from1 freshRow (t .rows) i) }

@@ -26,11 +26,11 @@ cellAgrees m u b j = isRemainder m (cellOf u j) (cellOf b j)
 -- "all rows agree in line, index and choosing flag", and "every token, pivot and read cell" is the remainder
 unfoldable pub rowAgrees : ℕ → Row → Row → Bool
 rowAgrees m u b =
-    eqb (u .line) (b .line)
-    && eqb (u .index) (b .index)
-    && eqb (u .choosing) (b .choosing)
-    && isRemainder m (u .token) (b .token)
-    && isRemainder m (u .pivot) (b .pivot)
+    eqb (u .core .line) (b .core .line)
+    && eqb (u .core .index) (b .core .index)
+    && eqb (u .core .choosing) (b .core .choosing)
+    && isRemainder m (u .core .token) (b .core .token)
+    && isRemainder m (u .core .pivot) (b .core .pivot)
     && every (cellAgrees m u b) slots
 
 -- row i of each
@@ -47,7 +47,7 @@ isCriticalLine line = within 8 10 line
 
 -- whether row i stands there
 abbrev pub isCritical : Table → ℕ → Bool
-isCritical t i = isCriticalLine (rowOf t i .line)
+isCritical t i = isCriticalLine (rowOf t i .core .line)
 
 -- "at most one process stands at lines 8 to 10"
 unfoldable pub atMostOne : Table → Bool

@@ -6,15 +6,15 @@ use mathlib.Core.Bool.{true, false}
 use mathlib.Core.List.{List, [], _∷_, _++_, flatten}
 use lib.IntN.{ℤ, pos}
 use lib.ListN.{length, replicate}
+use Rattle.laws.specs.Lent.{inFront}
 use Rattle.fields.specs.Numbers.{slots, unbounded, bounded, none, tokenLimit}
 use Rattle.fields.specs.Refusals.{noRefusal, badProcessNumber, aboveTokenLimit}
 use Rattle.fields.specs.Rules.{countOk}
 use Rattle.table.specs.WellFormed.{rowOf}
-use Rattle.table.specs.Fresh.{allNone, freshRow, freshTable}
-use Rattle.laws.specs.Lent.{inFront}
+use Rattle.table.specs.Fresh.{freshCore, allNone, freshRow, freshTable}
 use Rattle.table.specs.declared.Table.{Table}
 use Rattle.tokens.specs.Tokens.{nextToken, goesBefore}
-use Rattle.machine.specs.Setters.{withLine, withChoosing, withPivot, withCells}
+use Rattle.machine.specs.Setters.{withLine, withChoosing, withPivot}
 use Rattle.machine.specs.Step.{refusedStep, stepOf}
 use Rattle.machine.specs.Run.{runOf, bufferOf}
 use Rattle.machine.specs.declared.Ran.{Ran}
@@ -51,14 +51,14 @@ atLine4 algorithm n pivot cells =
       algorithm = algorithm;
       n = n;
       x = pivot;
-      rows = withLine 4 (withChoosing 1 (withPivot pivot (withCells cells freshRow))) ∷ replicate (slots - 1) freshRow;
+      rows = record { core = withLine 4 (withChoosing 1 (withPivot pivot freshCore)); cells = cells } ∷ replicate (slots - 1) freshRow;
     }
 
 -- the next token by its formula, and in the step of line 4 that takes it
 abbrev pub gives : ℕ → ℕ → ℤ → List ℤ → ℤ → Type 0
 gives algorithm n pivot cells token =
     let s = stepOf (atLine4 algorithm n pivot cells) 1 in
-    (nextToken algorithm n pivot cells ≡ token) × (s .stop ≡ noRefusal) × (rowOf (s .table) 1 .token ≡ token)
+    (nextToken algorithm n pivot cells ≡ token) × (s .stop ≡ noRefusal) × (rowOf (s .table) 1 .core .token ≡ token)
 
 -- The cases, in the order of the paper. "Schedules start from a fresh table".
 
@@ -129,9 +129,9 @@ lowerFirst algorithm =
 abbrev pub tokenZero : Type 0
 tokenZero =
     let r = ran (freshTable bounded 2) (replicate 28 1 ++ replicate 8 2) in
-    (rowOf (r .table) 1 .token ≡ pos 0)
-    × (rowOf (r .table) 2 .token ≡ pos 1)
-    × (rowOf (r .table) 2 .line ≡ 7)
+    (rowOf (r .table) 1 .core .token ≡ pos 0)
+    × (rowOf (r .table) 2 .core .token ≡ pos 1)
+    × (rowOf (r .table) 2 .core .line ≡ 7)
     × stepWaits (r .table) 2
     × (r .moved ≡ 35)
     × (r .waited ≡ 1)

@@ -19,11 +19,11 @@ use Rattle.demands.specs.Agreement.{atMostOne}
 pub record Holds (n : ℕ) (t : Table) (i : ℕ) : Type 0 where
   pub low : 1 ≤ i
   pub high : i ≤ n
-  pub token : isNone (rowOf t i .token) ≡ false
+  pub token : isNone (rowOf t i .core .token) ≡ false
 
 -- how far the token of j is ahead of the token of i, going round modulo 2n - 1
 abbrev pub aheadOf : ℕ → Table → ℕ → ℕ → ℕ
-aheadOf n t i j = remainder (rowOf t j .token -ℤ rowOf t i .token) (modulusOf n)
+aheadOf n t i j = remainder (rowOf t j .core .token -ℤ rowOf t i .core .token) (modulusOf n)
 
 -- the held tokens lie together: from the token of some process on, going round, none is more than `reach` ahead
 pub record OneArc (reach n : ℕ) (t : Table) : Type 0 where

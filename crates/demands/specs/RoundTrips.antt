@@ -6,10 +6,10 @@ use mathlib.Core.Bool.{true}
 use mathlib.Core.List.{List}
 use mathlib.Core.Logic.{_↔_}
 use lib.ListN.{length, getD, take}
+use Rattle.laws.specs.Lent.{inFront}
 use Rattle.fields.specs.Refusals.{noRefusal}
 use Rattle.table.specs.WellFormed.{wellFormed}
 use Rattle.table.specs.Sized.{Sized}
-use Rattle.laws.specs.Lent.{inFront}
 use Rattle.table.specs.declared.Table.{Table}
 use Rattle.stored.specs.Form.{encode, formLength}
 use Rattle.stored.specs.Writing.{writeOf, bufferOf}

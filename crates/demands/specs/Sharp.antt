@@ -54,7 +54,7 @@ sevenEach = flatten (replicate 7 (1 ∷ 2 ∷ []))
 abbrev pub TwoAtLine7 : Type 0
 TwoAtLine7 =
     let t = after bounded 2 sevenEach in
-    howMany (λ i. within 7 10 (rowOf t i .line)) slots ≡ 2
+    howMany (λ i. within 7 10 (rowOf t i .core .line)) slots ≡ 2
 
 -- Not n - 2: three processes hold the tokens 1, 2 and 3, modulo 5, and from none of the three on are all at most 1 ahead.
 abbrev pub sixEach : List ℕ

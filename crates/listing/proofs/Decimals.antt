@@ -7,8 +7,8 @@ use native.Mathlib.Nat.{mod-eq-of-lt, pow-suc}
 use borrow.Author.Tests.{lt-ltb, le-ltb, ltb-false}
 use lib.Dec.{ltb}
 use lib.ListN.{length, length-append}
-use Rattle.io.specs.Digits.{glyph, digits, Fewest}
 use Rattle.laws.proofs.Tests.{by-test}
+use Rattle.io.specs.Digits.{glyph, digits, Fewest}
 use Rattle.listing.specs.Text.{decimalUpTo, decimal}
 
 -- a power of ten is above its exponent

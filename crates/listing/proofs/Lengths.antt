@@ -7,10 +7,10 @@ use native.Mathlib.Omega.{arith}
 use lib.Dec.{eqb}
 use lib.ListN.{length, length-append}
 use borrow.Author.Tests.{eqb-true}
+use Rattle.laws.proofs.Tests.{by-test}
 use Rattle.fields.specs.Numbers.{slots}
 use Rattle.fields.specs.Refusals.{noRefusal}
 use Rattle.table.specs.declared.Table.{Table}
-use Rattle.laws.proofs.Tests.{by-test}
 use Rattle.machine.specs.Step.{stepOf}
 use Rattle.machine.proofs.Steps.{step-machine, step-process}
 use Rattle.courses.specs.Course.{Turn, Course, courseOn, those, processesOf}

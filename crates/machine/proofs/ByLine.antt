@@ -1,61 +1,69 @@
 -- A step, line by line: at a line that is known it is that line's step, and what holds of each line's step holds of the step.
-use Prim.Native.Nat.{ℕ, _≤_}
+use Prim.Native.Nat.{ℕ, suc, _≤_}
 use mathlib.Core.Path.{_≡_, refl, ap}
 use mathlib.Core.Bool.{cond}
 use native.Mathlib.Omega.{arith}
-use borrow.Author.Tests.{eqb-true}
+use borrow.Author.Tests.{eqb-true, eqb-false}
 use lib.Dec.{eqb}
-use Rattle.table.specs.declared.Row.{Row}
-use Rattle.laws.proofs.Tests.{by-test}
+use lib.IntN.{ℤ}
+use Rattle.laws.proofs.Tests.{by-test, up-to-next}
+use Rattle.table.specs.declared.Core.{Core}
 use Rattle.machine.specs.Lines.{waits, line1, line2, line3, line4, line5, line6, line7, line8, line9, line10, lineStep, anyLine}
 use Rattle.machine.specs.declared.Seen.{Seen}
-use Rattle.machine.specs.declared.Advanced.{Advanced}
+use Rattle.machine.specs.declared.Went.{Went}
 
 -- at a line that is known
-pub at-line : (algorithm n i : ℕ) (s : Seen) (r : Row) {k : ℕ} → r .line ≡ k
-    → anyLine algorithm n i s r ≡ lineStep k algorithm n i s r
+pub at-line : (algorithm n i : ℕ) (next : ℤ) (s : Seen) (c : Core) {k : ℕ} → c .line ≡ k
+    → anyLine algorithm n i next s c ≡ lineStep k algorithm n i next s c
 unfolding anyLine
-at-line algorithm n i s r e = ap (λ (k : ℕ). lineStep k algorithm n i s r) e
+at-line algorithm n i next s c e = ap (λ (k : ℕ). lineStep k algorithm n i next s c) e
 
--- P holds of each line's step of a row at that line, and of waiting, which is the step at any other line
-pub record EachLine (algorithm n i : ℕ) (s : Seen) (r : Row) (P : Advanced → Type 0) : Type 0 where
-  pub at1 : r .line ≡ 1 → P (line1 s r)
-  pub at2 : r .line ≡ 2 → P (line2 n s r)
-  pub at3 : r .line ≡ 3 → P (line3 s r)
-  pub at4 : r .line ≡ 4 → P (line4 algorithm n s r)
-  pub at5 : r .line ≡ 5 → P (line5 n i s r)
-  pub at6 : r .line ≡ 6 → P (line6 s r)
-  pub at7 : r .line ≡ 7 → P (line7 algorithm n i s r)
-  pub at8 : r .line ≡ 8 → P (line8 r)
-  pub at9 : r .line ≡ 9 → P (line9 s r)
-  pub at10 : r .line ≡ 10 → P (line10 s r)
-  pub elsewhere : P (waits s r)
+-- a core at none of the lines 1 to k
+abbrev pub OffLines : Core → ℕ → Type 0
+OffLines c k = (j : ℕ) → 1 ≤ j → j ≤ k → c .line ≡ j → ⊥
+
+-- P holds of each line's step of a core at that line, and of waiting, which is the step at any other line
+pub record EachLine (algorithm n i : ℕ) (next : ℤ) (s : Seen) (c : Core) (P : Went → Type 0) : Type 0 where
+  pub at1 : c .line ≡ 1 → P (line1 s c)
+  pub at2 : c .line ≡ 2 → P (line2 n s c)
+  pub at3 : c .line ≡ 3 → P (line3 s c)
+  pub at4 : c .line ≡ 4 → P (line4 algorithm next s c)
+  pub at5 : c .line ≡ 5 → P (line5 n i s c)
+  pub at6 : c .line ≡ 6 → P (line6 s c)
+  pub at7 : c .line ≡ 7 → P (line7 algorithm n i s c)
+  pub at8 : c .line ≡ 8 → P (line8 c)
+  pub at9 : c .line ≡ 9 → P (line9 s c)
+  pub at10 : c .line ≡ 10 → P (line10 s c)
+  pub elsewhere : OffLines c 10 → P (waits s c)
 
 -- the one case analysis over the lines
-pub by-line : (algorithm n i : ℕ) (s : Seen) (r : Row) (P : Advanced → Type 0) → EachLine algorithm n i s r P
-    → P (anyLine algorithm n i s r)
+pub by-line : (algorithm n i : ℕ) (next : ℤ) (s : Seen) (c : Core) (P : Went → Type 0) → EachLine algorithm n i next s c P
+    → P (anyLine algorithm n i next s c)
 unfolding anyLine lineStep
-by-line algorithm n i s r P c =
-    test 1 (c .at1)
-    (test 2 (c .at2)
-    (test 3 (c .at3)
-    (test 4 (c .at4)
-    (test 5 (c .at5)
-    (test 6 (c .at6)
-    (test 7 (c .at7)
-    (test 8 (c .at8)
-    (test 9 (c .at9)
-    (test 10 (c .at10)
-    (c .elsewhere))))))))))
+by-line algorithm n i next s c P each =
+    test 0 (λ j low high. omega arith) (each .at1)
+    (λ off. test 1 off (each .at2)
+    (λ off. test 2 off (each .at3)
+    (λ off. test 3 off (each .at4)
+    (λ off. test 4 off (each .at5)
+    (λ off. test 5 off (each .at6)
+    (λ off. test 6 off (each .at7)
+    (λ off. test 7 off (each .at8)
+    (λ off. test 8 off (each .at9)
+    (λ off. test 9 off (each .at10)
+    (each .elsewhere))))))))))
   where
-    test : (k : ℕ) {a b : Advanced} → (r .line ≡ k → P a) → P b → P (cond (eqb (r .line) k) a b)
-    test k f g = by-test P (eqb (r .line) k) (λ e. f (eqb-true (r .line) k e)) (λ _. g)
+    test : (k : ℕ) → OffLines c k → {a b : Went} → (c .line ≡ suc k → P a) → (OffLines c (suc k) → P b)
+        → P (cond (eqb (c .line) (suc k)) a b)
+    test k off f g =
+        by-test P (eqb (c .line) (suc k)) (λ e. f (eqb-true (c .line) (suc k) e))
+        (λ e. g (up-to-next (λ j. c .line ≡ j → ⊥) k off (eqb-false (c .line) (suc k) e)))
 
--- a row at none of the lines waits
-pub at-no-line : (algorithm n i : ℕ) (s : Seen) (r : Row) → ((k : ℕ) → 1 ≤ k → k ≤ 10 → r .line ≡ k → ⊥)
-    → anyLine algorithm n i s r ≡ waits s r
-at-no-line algorithm n i s r off =
-    by-line algorithm n i s r (λ (a : Advanced). a ≡ waits s r)
+-- a core at none of the lines waits
+pub at-no-line : (algorithm n i : ℕ) (next : ℤ) (s : Seen) (c : Core) → OffLines c 10
+    → anyLine algorithm n i next s c ≡ waits s c
+at-no-line algorithm n i next s c off =
+    by-line algorithm n i next s c (λ (a : Went). a ≡ waits s c)
     (record {
       at1 = λ e. absurd (off 1 (omega arith) (omega arith) e);
       at2 = λ e. absurd (off 2 (omega arith) (omega arith) e);
@@ -67,5 +75,5 @@ at-no-line algorithm n i s r off =
       at8 = λ e. absurd (off 8 (omega arith) (omega arith) e);
       at9 = λ e. absurd (off 9 (omega arith) (omega arith) e);
       at10 = λ e. absurd (off 10 (omega arith) (omega arith) e);
-      elsewhere = refl;
+      elsewhere = λ _. refl;
     })

@@ -1,7 +1,10 @@
 pub mod ByLine
-pub mod Keeps
+pub mod KeptBy
+pub mod CoreKeeps
+pub mod RowKeeps
 pub mod Marks
-pub mod IsReady
+pub mod Only
+pub mod Arms
 pub mod Ready
 pub mod Steps
 pub mod Going

@@ -2,24 +2,26 @@
 use Prim.Native.Nat.{ℕ, _+_, _≤_}
 use mathlib.Core.Path.{_≡_, sym, ap, _∙_}
 use mathlib.Core.Bool.{true}
-use mathlib.Core.List.{List, _++_}
+use mathlib.Core.List.{List, [], _∷_, _++_}
+use mathlib.Core.Logic.{⊎-elim}
 use native.Mathlib.Omega.{arith}
-use borrow.Author.Tests.{le-leb, leb-true, eqb-true, ne-eqb}
+use borrow.Author.Tests.{le-leb, leb-true, eqb-true, eqb-false, ne-eqb}
 use lib.Dec.{leb, eqb}
 use lib.ListN.{length, length-append}
+use Rattle.laws.specs.Lent.{inFront}
+use Rattle.laws.proofs.Tests.{by-test, by-answer}
 use Rattle.fields.specs.Numbers.{scheduleLimit}
 use Rattle.fields.specs.Refusals.{noRefusal}
 use Rattle.table.specs.WellFormed.{wellFormed}
 use Rattle.table.specs.Sized.{Sized}
-use Rattle.laws.specs.Lent.{inFront}
 use Rattle.table.specs.declared.Table.{Table}
-use Rattle.laws.proofs.Tests.{by-test}
-use Rattle.courses.specs.Course.{Course, begunBy, changed, unchanged}
+use Rattle.courses.specs.Course.{Course, begunBy, courseOn, those, changed, movedIn, unchanged}
 use Rattle.courses.proofs.Counts.{count-append, count-most}
 use Rattle.courses.proofs.Courses.{course-append, course-goes-on, processes-in-turn, taken-most, course-keeps}
-use Rattle.machine.proofs.Steps.{step-sized}
+use Rattle.machine.specs.Step.{stepOf}
 use Rattle.machine.specs.Run.{tables, courseOf, isEntry, enteredIn, waitingOf, answerOf, runRefusal, runOf, bufferOf}
 use Rattle.machine.specs.declared.Ran.{Ran}
+use Rattle.machine.proofs.Steps.{step-sized, step-mark, step-unmarked, step-refused}
 use Rattle.machine.proofs.Going.{Whole, lawful}
 
 module _ (t : Table) (s b : List ℕ) where
@@ -64,6 +66,28 @@ module _ (t : Table) (s b : List ℕ) where
       (λ accepted. omega (arith, count-most isEntry (courseOf t s .turns), taken-most tables t s, accepted-room (eqb-true _ _ accepted)))
       (λ _. omega arith)
 
+-- A step of a well-formed table is a run of one byte.
+module _ (t : Table) (i : ℕ) where
+  abbrev one : Course Table
+  one = courseOf t (i ∷ [])
+
+  pub one-table : one .table ≡ stepOf t i .table
+  unfolding courseOn
+  one-table =
+      by-answer (eqb (stepOf t i .stop) noRefusal) (λ e. rw e)
+      (λ e. rw e (sym (step-unmarked t i (step-refused t i (eqb-false (stepOf t i .stop) noRefusal e)))))
+
+  pub one-stop : one .stop ≡ stepOf t i .stop
+  unfolding courseOn
+  one-stop = by-answer (eqb (stepOf t i .stop) noRefusal) (λ e. rw e (sym (eqb-true (stepOf t i .stop) noRefusal e))) (λ e. rw e)
+
+  pub one-mark : movedIn (one .turns) ≡ stepOf t i .mark
+  unfolding courseOn those
+  one-mark =
+      by-answer (eqb (stepOf t i .stop) noRefusal)
+      (λ e. rw e (⊎-elim (λ m. rw m) (λ m. rw m) (step-mark t i)))
+      (λ e. rw e (sym (step-refused t i (eqb-false (stepOf t i .stop) noRefusal e))))
+
 -- The last table of a course is well formed, and sized, if the first one is.
 pub course-well-formed : (t : Table) (s : List ℕ) → wellFormed t ≡ true → Sized t → wellFormed (courseOf t s .table) ≡ true
 course-well-formed t s w z = course-keeps tables Whole (lawful .keeps) t s (record { formed = w; sized = z }) .formed
@@ -106,31 +130,30 @@ answer-begun c d =
 -- longer schedule is several runs, each from the last one's table. If a byte of the first is refused, the run over both ends there.
 module _ (t : Table) (s later buffer first : List ℕ) (both : runRefusal t (s ++ later) buffer ≡ noRefusal)
     (one : runRefusal t s first ≡ noRefusal) where
-  pub run-append : (second : List ℕ) → runOf t s first .stop ≡ noRefusal
-      → runRefusal (runOf t s first .table) later second ≡ noRefusal
-      → runOf t (s ++ later) buffer ≡ afterwards (runOf t s first) (runOf (runOf t s first .table) later second)
-  run-append second going two =
-      let a = run-answer t s first one in
-      let stop : courseOf t s .stop ≡ noRefusal = ap (λ (r : Ran). r .stop) (sym a) ∙ going in
-      let last : runOf t s first .table ≡ courseOf t s .table = ap (λ (r : Ran). r .table) a in
-      let d = courseOf (courseOf t s .table) later in
-      let joined = course-goes-on tables t s later stop in
-      let b : runOf (runOf t s first .table) later second ≡ answerOf d = run-answer _ later second two ∙ rw last in
-      run-answer t (s ++ later) buffer both ∙ ap answerOf joined ∙ answer-begun (courseOf t s) d
-      ∙ sym (λ at. afterwards (a at) (b at))
+  answer : runOf t s first ≡ answerOf (courseOf t s)
+  answer = run-answer t s first one
 
   pub run-stopped : (runOf t s first .stop ≡ noRefusal → ⊥) → runOf t (s ++ later) buffer ≡ runOf t s first
   run-stopped stopped =
-      let a = run-answer t s first one in
-      let stop : courseOf t s .stop ≡ noRefusal → ⊥ = λ q. stopped (ap (λ (r : Ran). r .stop) a ∙ q) in
-      run-answer t (s ++ later) buffer both ∙ ap answerOf (course-append tables t s later ∙ rw (ne-eqb _ noRefusal stop)) ∙ sym a
+      let stop : courseOf t s .stop ≡ noRefusal → ⊥ = λ q. stopped (ap (λ (r : Ran). r .stop) answer ∙ q) in
+      run-answer t (s ++ later) buffer both ∙ ap answerOf (course-append tables t s later ∙ rw (ne-eqb _ noRefusal stop)) ∙ sym answer
 
-  -- and in the buffer the entries of the first stand before those of the second
-  pub run-append-buffer : runOf t s first .stop ≡ noRefusal
-      → bufferOf t (s ++ later) buffer
-      ≡ inFront (enteredIn (courseOf t s .turns) ++ enteredIn (courseOf (runOf t s first .table) later .turns)) buffer
-  run-append-buffer going =
-      let a = run-answer t s first one in
-      let stop : courseOf t s .stop ≡ noRefusal = ap (λ (r : Ran). r .stop) (sym a) ∙ going in
-      let last : runOf t s first .table ≡ courseOf t s .table = ap (λ (r : Ran). r .table) a in
-      run-buffer t (s ++ later) buffer both ∙ rw (last, processes-in-turn tables t s later stop isEntry)
+  module _ (going : runOf t s first .stop ≡ noRefusal) where
+    stop : courseOf t s .stop ≡ noRefusal
+    stop = ap (λ (r : Ran). r .stop) (sym answer) ∙ going
+
+    last : runOf t s first .table ≡ courseOf t s .table
+    last = ap (λ (r : Ran). r .table) answer
+
+    pub run-append : (second : List ℕ) → runRefusal (runOf t s first .table) later second ≡ noRefusal
+        → runOf t (s ++ later) buffer ≡ afterwards (runOf t s first) (runOf (runOf t s first .table) later second)
+    run-append second two =
+        let d = courseOf (courseOf t s .table) later in
+        let b : runOf (runOf t s first .table) later second ≡ answerOf d = run-answer _ later second two ∙ rw last in
+        run-answer t (s ++ later) buffer both ∙ ap answerOf (course-goes-on tables t s later stop) ∙ answer-begun (courseOf t s) d
+        ∙ sym (λ at. afterwards (answer at) (b at))
+
+    -- and in the buffer the entries of the first stand before those of the second
+    pub run-append-buffer : bufferOf t (s ++ later) buffer
+        ≡ inFront (enteredIn (courseOf t s .turns) ++ enteredIn (courseOf (runOf t s first .table) later .turns)) buffer
+    run-append-buffer = run-buffer t (s ++ later) buffer both ∙ rw (last, processes-in-turn tables t s later stop isEntry)

@@ -5,22 +5,22 @@ use mathlib.Core.Bool.{true, false}
 use mathlib.Core.Logic.{_⊎_, inl, inr, ⊎-elim}
 use native.Mathlib.Omega.{arith}
 use native.Mathlib.Decide.{ℕ-discrete}
-use lib.ListN.{length, set, length-set}
+use lib.ListN.{length, getD, set, length-set}
 use lib.Seq.{getD-set-same, getD-set-other, set-getD}
 use Rattle.laws.specs.Tests.{within}
+use Rattle.laws.proofs.Tests.{by-test, within-low, within-high}
 use Rattle.fields.specs.Numbers.{slots, limitOf, topOf}
 use Rattle.fields.specs.Refusals.{notWellFormed, badProcessNumber}
 use Rattle.table.specs.WellFormed.{noRow, rowOf, wellFormed}
 use Rattle.table.specs.Sized.{Sized}
 use Rattle.table.specs.declared.Row.{Row}
 use Rattle.table.specs.declared.Table.{Table}
-use Rattle.laws.proofs.Tests.{by-test, within-low, within-high}
 use Rattle.table.proofs.WellFormed.{TableRules, RowRules, table-rules, well-formed, token-range}
-use Rattle.machine.specs.Lines.{anyLine}
-use Rattle.machine.specs.declared.Advanced.{Advanced}
-use Rattle.machine.proofs.Keeps.{Sees, Kept, advance-keeps}
+use Rattle.machine.specs.Lines.{Advanced, advanceOf}
+use Rattle.machine.specs.declared.Seen.{Seen}
+use Rattle.machine.proofs.RowKeeps.{Sees, Kept, advance-keeps}
 use Rattle.machine.proofs.Marks.{Still, Moved, Marked, advance-marked}
-use Rattle.machine.specs.Step.{seenOf, putBack, refusedStep, takenOf, stepOf}
+use Rattle.machine.specs.Step.{seenIn, seenOf, putBack, refusedStep, takenOf, stepOf}
 use Rattle.machine.specs.declared.Stepped.{Stepped}
 
 -- A step is refused, or it is the step of one of the processes of a well-formed table.
@@ -36,7 +36,7 @@ by-case t i P refused taken =
     (λ _. refused badProcessNumber (omega arith)))
     (λ _. refused notWellFormed (omega arith))
 
--- The two where the table is well formed.
+-- The two cases of a well-formed table: the number of one of its processes, and any other.
 module _ (t : Table) (i : ℕ) (w : wellFormed t ≡ true) where
   pub step-taken : within 1 (t .n) i ≡ true → stepOf t i ≡ takenOf t i
   unfolding stepOf
@@ -48,7 +48,22 @@ module _ (t : Table) (i : ℕ) (w : wellFormed t ≡ true) where
 
 -- the step of process i, over its own row
 abbrev advanced : Table → ℕ → Advanced
-advanced t i = anyLine (t .algorithm) (t .n) i (seenOf t (rowOf t i)) (rowOf t i)
+advanced t i = advanceOf (t .algorithm) (t .n) i (seenOf t i) (rowOf t i)
+
+-- A row is taken out of a table, advanced and put back, over plain values: p is the place of process i, q that of the process at its index,
+-- s what is seen there, and a what comes of the row. `step` does it, and so does whoever takes byte after byte of a schedule.
+pub out-and-back : (t : Table) (i : ℕ) {p q : ℕ} {s : Seen} {a : Advanced} → p ≡ i - 1
+    → q ≡ getD (t .rows) p noRow .core .index - 1
+    → s ≡ seenIn (t .x) (getD (t .rows) q noRow .core)
+    → a ≡ advanceOf (t .algorithm) (t .n) i s (getD (t .rows) p noRow)
+    → takenOf t i
+    ≡ record {
+      table = record { algorithm = t .algorithm; n = t .n; x = a .x; rows = set (t .rows) p (a .row) };
+      mark = a .mark;
+      stop = a .stop;
+    }
+unfolding takenOf
+out-and-back t i own other seen advanced = rw (advanced, seen, other, own)
 
 -- The rows after row i is put back: row i is the one that was put, and the others are as they were.
 module _ (t : Table) (i : ℕ) (a : Advanced) (low : 1 ≤ i) where
@@ -68,11 +83,11 @@ module _ (t : Table) (i : ℕ) (a : Advanced) (low : 1 ≤ i) where
       by-number (no o) = rw (row-other j l o) kept
 
 -- what a process of a well-formed table sees
-sees : (t : Table) (i : ℕ) → wellFormed t ≡ true → Sees (t .algorithm) (t .n) i (seenOf t (rowOf t i)) (rowOf t i)
+sees : (t : Table) (i : ℕ) → wellFormed t ≡ true → Sees (t .algorithm) (t .n) i (seenOf t i) (rowOf t i)
 sees t i w =
     let rules = table-rules t w in
     record {
-      token = λ l h. token-range (limitOf (t .algorithm) (t .n)) _ _ (rules .rows (rowOf t i .index) l (omega arith) .token);
+      token = λ l h. token-range (limitOf (t .algorithm) (t .n)) _ _ (rules .rows (rowOf t i .core .index) l (omega arith) .core .token);
       own = λ q. rw q;
       x = rules .x;
     }
@@ -126,8 +141,8 @@ module _ (t : Table) (i : ℕ) where
   step-sized z = by-case t i (λ (u : Stepped). Sized (u .table)) (λ _ _. z) (λ w. taken-sized t i w z)
 
   -- what the mark says of the row says it of the table
-  marked : Marked (seenOf t (rowOf t i)) (rowOf t i) (advanced t i)
-  marked = advance-marked (seenOf t (rowOf t i)) (rowOf t i) (t .algorithm) (t .n) i
+  marked : Marked (seenOf t i) (rowOf t i) (advanced t i)
+  marked = advance-marked (seenOf t i) (rowOf t i) (t .algorithm) (t .n) i
 
   pub step-mark : (stepOf t i .mark ≡ 0) ⊎ (stepOf t i .mark ≡ 1)
   unfolding takenOf
@@ -145,7 +160,7 @@ module _ (t : Table) (i : ℕ) where
       by-case t i (λ (u : Stepped). u .mark ≡ 0 → u .table ≡ t) (λ _ _ _. refl)
       (λ _ _ _ e. ⊎-elim put-still (λ m. absurd (omega (arith, m .mark, e))) marked)
     where
-      put-still : Still (seenOf t (rowOf t i)) (rowOf t i) (advanced t i) → putBack t i (advanced t i) ≡ t
+      put-still : Still (seenOf t i) (rowOf t i) (advanced t i) → putBack t i (advanced t i) ≡ t
       put-still s =
           let rows : set (t .rows) (i - 1) (advanced t i .row) ≡ t .rows = rw (s .row) (set-getD (t .rows) (i - 1) noRow) in
           λ at. record { algorithm = t .algorithm; n = t .n; x = s .x at; rows = rows at }
@@ -160,7 +175,7 @@ module _ (t : Table) (i : ℕ) where
       put-moved rules l h q m =
           let put = row-put t i (advanced t i) l (omega arith) in
           let same : advanced t i .row ≡ rowOf t i = sym put ∙ ap (λ (u : Table). rowOf u i) q in
-          m .apart (ap (λ (r : Row). r .line) same) (ap (λ (r : Row). r .index) same)
+          m .apart (ap (λ (r : Row). r .core .line) same) (ap (λ (r : Row). r .core .index) same)
 
   -- a refused step changes nothing
   pub step-refused : (stepOf t i .stop ≡ 0 → ⊥) → stepOf t i .mark ≡ 0

@@ -1,16 +1,16 @@
--- Document 01, "A run": the steps of a schedule one after another, of the bakery's tables, and the answer of `run`. What a course is, and what
--- is counted of it, is said over any machine in `crates/courses/specs/Course.antt`.
+-- Document 01, "A run": the steps of a schedule one after another, of the bakery's tables, and the answer of `run`. What a course is, and
+-- what is counted of it, is said over any machine in `crates/courses/specs/Course.antt`.
 use Prim.Native.Nat.{ℕ}
 use mathlib.Core.Bool.{Bool, cond}
 use mathlib.Core.List.{List}
 use lib.Dec.{leb, eqb}
 use lib.ListN.{length}
 use Rattle.laws.specs.Tests.{within, howMany}
+use Rattle.laws.specs.Lent.{inFront}
 use Rattle.fields.specs.Numbers.{slots, lineOfEntry, scheduleLimit}
 use Rattle.fields.specs.Refusals.{noRefusal, notWellFormed, scheduleTooLong, entriesTooShort}
 use Rattle.table.specs.WellFormed.{rowOf, wellFormed}
-use Rattle.laws.specs.Lent.{inFront}
-use Rattle.courses.specs.Course.{Machine, Turn, Course, turnOn, courseOn, movedIn, waitedIn, isEntryAt, entriesAt, enteredAt}
+use Rattle.courses.specs.Course.{Machine, Turn, Course, turnOn, courseOn, those, movedIn, waitedIn, processesOf}
 use Rattle.table.specs.declared.Table.{Table}
 use Rattle.machine.specs.Step.{stepOf}
 use Rattle.machine.specs.declared.Ran.{Ran}
@@ -21,7 +21,7 @@ tables = record {
   after = λ t i. stepOf t i .table;
   mark = λ t i. stepOf t i .mark;
   stop = λ t i. stepOf t i .stop;
-  line = λ t i. rowOf t i .line;
+  line = λ t i. rowOf t i .core .line;
 }
 
 abbrev pub turnOf : Table → ℕ → Turn
@@ -33,18 +33,18 @@ courseOf = courseOn tables
 
 -- "Entries is the count of line 8 steps taken"
 abbrev pub isEntry : Turn → Bool
-isEntry = isEntryAt lineOfEntry
+isEntry u = eqb (u .line) lineOfEntry
 
 abbrev pub entriesIn : List Turn → ℕ
-entriesIn = entriesAt lineOfEntry
+entriesIn us = length (those isEntry us)
 
 -- "The process number of each entry", "in order"
 abbrev pub enteredIn : List Turn → List ℕ
-enteredIn = enteredAt lineOfEntry
+enteredIn us = processesOf (those isEntry us)
 
 -- whether row i is one of the "rows at line 6 or 7"
 abbrev pub isWaiting : Table → ℕ → Bool
-isWaiting t i = within 6 7 (rowOf t i .line)
+isWaiting t i = within 6 7 (rowOf t i .core .line)
 
 -- "waiting is the number of rows at line 6 or 7 in the last table"
 abbrev pub waitingOf : Table → ℕ

@@ -1,28 +1,19 @@
--- The row with one field set anew. Every definition that changes a row goes through these.
-use Prim.Native.Nat.{ℕ, _-_}
-use mathlib.Core.List.{List}
+-- The core of a row with one field set anew. Every definition that changes a core goes through these.
+use Prim.Native.Nat.{ℕ}
 use lib.IntN.{ℤ}
-use lib.ListN.{set}
-use Rattle.table.specs.declared.Row.{Row}
+use Rattle.table.specs.declared.Core.{Core}
 
-abbrev pub withLine : ℕ → Row → Row
-withLine v r = record { line = v; index = r .index; choosing = r .choosing; token = r .token; pivot = r .pivot; cells = r .cells }
+abbrev pub withLine : ℕ → Core → Core
+withLine v c = record { line = v; index = c .index; choosing = c .choosing; token = c .token; pivot = c .pivot }
 
-abbrev pub withIndex : ℕ → Row → Row
-withIndex v r = record { line = r .line; index = v; choosing = r .choosing; token = r .token; pivot = r .pivot; cells = r .cells }
+abbrev pub withIndex : ℕ → Core → Core
+withIndex v c = record { line = c .line; index = v; choosing = c .choosing; token = c .token; pivot = c .pivot }
 
-abbrev pub withChoosing : ℕ → Row → Row
-withChoosing v r = record { line = r .line; index = r .index; choosing = v; token = r .token; pivot = r .pivot; cells = r .cells }
+abbrev pub withChoosing : ℕ → Core → Core
+withChoosing v c = record { line = c .line; index = c .index; choosing = v; token = c .token; pivot = c .pivot }
 
-abbrev pub withToken : ℤ → Row → Row
-withToken v r = record { line = r .line; index = r .index; choosing = r .choosing; token = v; pivot = r .pivot; cells = r .cells }
+abbrev pub withToken : ℤ → Core → Core
+withToken v c = record { line = c .line; index = c .index; choosing = c .choosing; token = v; pivot = c .pivot }
 
-abbrev pub withPivot : ℤ → Row → Row
-withPivot v r = record { line = r .line; index = r .index; choosing = r .choosing; token = r .token; pivot = v; cells = r .cells }
-
-abbrev pub withCells : List ℤ → Row → Row
-withCells v r = record { line = r .line; index = r .index; choosing = r .choosing; token = r .token; pivot = r .pivot; cells = v }
-
--- read cell j takes v; process numbers start at 1
-abbrev pub withCell : ℕ → ℤ → Row → Row
-withCell j v r = withCells (set (r .cells) (j - 1) v) r
+abbrev pub withPivot : ℤ → Core → Core
+withPivot v c = record { line = c .line; index = c .index; choosing = c .choosing; token = c .token; pivot = v }

@@ -1,21 +1,24 @@
 -- Document 01, "One step of process i", over a table: what the step sees, the table after it, and the answer of `step`.
 use Prim.Native.Nat.{ℕ, _-_}
 use mathlib.Core.Bool.{cond}
+use lib.IntN.{ℤ}
 use lib.ListN.{set}
 use Rattle.laws.specs.Tests.{within}
 use Rattle.fields.specs.Refusals.{notWellFormed, badProcessNumber}
 use Rattle.table.specs.WellFormed.{rowOf, wellFormed}
-use Rattle.table.specs.declared.Row.{Row}
+use Rattle.table.specs.declared.Core.{Core}
 use Rattle.table.specs.declared.Table.{Table}
-use Rattle.machine.specs.Lines.{anyLine}
+use Rattle.machine.specs.Lines.{Advanced, advanceOf}
 use Rattle.machine.specs.declared.Seen.{Seen}
-use Rattle.machine.specs.declared.Advanced.{Advanced}
 use Rattle.machine.specs.declared.Stepped.{Stepped}
 
--- What the step of row r sees: the choosing flag and the token of process j, j being its index, and X. At index 0 no line looks at the
--- flag or the token.
-abbrev pub seenOf : Table → Row → Seen
-seenOf t r = record { choosing = rowOf t (r .index) .choosing; token = rowOf t (r .index) .token; x = t .x }
+-- What a step sees: of process j, j being its index, the choosing flag and the token, and X. At index 0 no line looks at the flag or the
+-- token.
+abbrev pub seenIn : ℤ → Core → Seen
+seenIn x other = record { choosing = other .choosing; token = other .token; x = x }
+
+abbrev pub seenOf : Table → ℕ → Seen
+seenOf t i = seenIn (t .x) (rowOf t (rowOf t i .core .index) .core)
 
 -- The table after the step of process i: its row and X as the step leaves them.
 abbrev pub putBack : Table → ℕ → Advanced → Table
@@ -24,7 +27,7 @@ putBack t i a = record { algorithm = t .algorithm; n = t .n; x = a .x; rows = se
 -- The step of process i of a well-formed table, i being 1 to n.
 unfoldable pub takenOf : Table → ℕ → Stepped
 takenOf t i =
-    let a = anyLine (t .algorithm) (t .n) i (seenOf t (rowOf t i)) (rowOf t i) in
+    let a = advanceOf (t .algorithm) (t .n) i (seenOf t i) (rowOf t i) in
     record { table = putBack t i a; mark = a .mark; stop = a .stop }
 
 -- "On refusal step returns the given table and the mark 0". Of refusal 5, which `takenOf` answers, and of a step that waits, the laws

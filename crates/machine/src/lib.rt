@@ -6,22 +6,22 @@ mod stepping;
 
 pub use running::run;
 pub use stepping::step;
-use table::Row;
+use table::Core;
 use table::Table;
 
 // What a step sees outside its own row: of the process at its index the choosing flag and the token, and X.
-pub struct Seen {
-    pub choosing: u8,
-    pub token: i32,
-    pub x: i32,
+pub(crate) struct Seen {
+    pub(crate) choosing: u8,
+    pub(crate) token: i32,
+    pub(crate) x: i32,
 }
 
-// What comes of a step: its own row, X, the mark and the stop number.
-pub struct Advanced {
-    pub row: Row,
-    pub x: i32,
-    pub mark: u8,
-    pub stop: u8,
+// What comes of a line: the core of the row, X, the mark and the stop number.
+pub(crate) struct Went {
+    pub(crate) core: Core,
+    pub(crate) x: i32,
+    pub(crate) mark: u8,
+    pub(crate) stop: u8,
 }
 
 // The answer of `step`.

@@ -1,27 +1,29 @@
-// One step of a process, line by line: its own row and what it sees of the others go in, and what comes of them goes out.
+// One step of a process, line by line: the core of its row and what it sees of the others go in, and what comes of them goes out. Line 4 is
+// given the next token besides.
 ghost use mathlib.Core.Path.{_≡_};
 ghost use Prim.Native.Nat.{ℕ, _≤_};
-ghost use Rattle.fields.specs.Numbers.{slots};
+ghost use lib.IntN.{ℤ};
+ghost use Rattle.fields.specs.Numbers.{slots, none};
 ghost use Rattle.tokens.specs.Count.{Count};
-ghost use Rattle.machine.specs.Ready.{Ready};
-ghost use Rattle.machine.specs.Setters.{withCell};
-ghost use Rattle.machine.specs.Lines.{moves, refuses, nextOther, goesOn, takesToken, passes, line1, line2, line3, line4, line5, line6};
-ghost use Rattle.machine.specs.Lines.{line7, line8, line9, line10, anyLine};
-use crate::Advanced;
+ghost use Rattle.tokens.specs.Answers.{judged};
+ghost use Rattle.machine.specs.Ready.{Ready, OtherLine};
+ghost use Rattle.machine.specs.Setters.{withLine, withPivot, withToken};
+ghost use Rattle.machine.specs.Lines.{moves, refuses, nextOther, goesOn, passes, line1, line2, line3, line4, line5, line6, line7};
+ghost use Rattle.machine.specs.Lines.{line8, line9, line10, anyLine};
 use crate::Seen;
+use crate::Went;
 use fields::NONE;
-use fields::SLOTS;
 use fields::Value;
 use fields::refusal;
-use table::Row;
-use table::place_of;
+use table::Core;
+use tokens::Next;
 
-// The step changed the row.
-fn moved(s: Seen, r: Row) -> Advanced
-    ensures { λ a. ⌜ a ≡ moves (s .x) r ⌝ }
+// The step changed the core.
+fn moved(s: Seen, c: Core) -> Went
+    ensures { λ w. ⌜ w ≡ moves (s .x) c ⌝ }
 {
-    Advanced {
-        row: r,
+    Went {
+        core: c,
         x: s.x,
         mark: 1,
         stop: refusal::NO_REFUSAL,
@@ -29,11 +31,11 @@ fn moved(s: Seen, r: Row) -> Advanced
 }
 
 // The step changed nothing: it waits, or is refused.
-pub(crate) fn kept(stop: u8, s: Seen, r: Row) -> Advanced
-    ensures { λ a. ⌜ a ≡ refuses stop s r ⌝ }
+fn kept(stop: u8, s: Seen, c: Core) -> Went
+    ensures { λ w. ⌜ w ≡ refuses stop s c ⌝ }
 {
-    Advanced {
-        row: r,
+    Went {
+        core: c,
         x: s.x,
         mark: 0,
         stop,
@@ -52,12 +54,12 @@ fn next_other(i: u8, j: u8) -> u8
 }
 
 // To line 6 with the next larger number other than i, or to line 8 if there is none.
-fn goes_on(n: u8, i: u8, j: u8, r: Row) -> Row
+fn goes_on(n: u8, i: u8, j: u8, c: Core) -> Core
     requires { ⌜ j ≤ slots ⌝ }
-    ensures { λ w. ⌜ w ≡ goesOn n i j r ⌝ }
+    ensures { λ w. ⌜ w ≡ goesOn n i j c ⌝ }
 {
     let next = next_other(i, j);
-    let mut w = r;
+    let mut w = c;
     if next <= n {
         w.index = next;
         w.line = 6;
@@ -69,35 +71,23 @@ fn goes_on(n: u8, i: u8, j: u8, r: Row) -> Row
 }
 
 // 1: choosing becomes 1, index 1, line 2.
-fn line_1(s: Seen, r: Row) -> Advanced
-    ensures { λ a. ⌜ a ≡ line1 s r ⌝ }
+fn line_1(s: Seen, c: Core) -> Went
+    ensures { λ w. ⌜ w ≡ line1 s c ⌝ }
 {
-    let mut w = r;
+    let mut w = c;
     w.choosing = 1;
     w.index = 1;
     w.line = 2;
     moved(s, w)
 }
 
-// Read cell j takes the token that is seen.
-fn with_cell(j: u8, s: Seen, r: Row) -> Row
-    requires { ⌜ j ≤ slots ⌝ }
-    ensures { λ w. ⌜ w ≡ withCell j (s .token) r ⌝ }
+// 2, index j: index j + 1, or, if j = n, index 0 and line 3. (`with_read` sets the read cell.)
+pub(crate) fn line_2(n: u8, s: Seen, c: Core) -> Went
+    requires { ⌜ c .index ≤ slots ⌝ }
+    ensures { λ w. ⌜ w ≡ line2 n s c ⌝ }
 {
-    let k = place_of(j);
-    let token = s.token;
-    let mut w = r;
-    w.cells[k] = token;
-    w
-}
-
-// 2, index j: read cell j takes token j. Then index j + 1, or, if j = n, index 0 and line 3.
-fn line_2(n: u8, s: Seen, r: Row) -> Advanced
-    requires { ⌜ r .index ≤ slots ⌝ }
-    ensures { λ a. ⌜ a ≡ line2 n s r ⌝ }
-{
-    let j = r.index;
-    let mut w = with_cell(j, s, r);
+    let j = c.index;
+    let mut w = c;
     if j == n {
         w.index = 0;
         w.line = 3;
@@ -108,73 +98,56 @@ fn line_2(n: u8, s: Seen, r: Row) -> Advanced
 }
 
 // 3: pivot takes X; line 4.
-fn line_3(s: Seen, r: Row) -> Advanced
-    ensures { λ a. ⌜ a ≡ line3 s r ⌝ }
+fn line_3(s: Seen, c: Core) -> Went
+    ensures { λ w. ⌜ w ≡ line3 s c ⌝ }
 {
-    let mut w = r;
+    let mut w = c;
     w.pivot = s.x;
     w.line = 4;
     moved(s, w)
 }
 
-// The row takes its token, of either machine, and gives up what was read for it.
-fn takes_token(token: Value, r: Row) -> Row
-    ensures { λ w. ⌜ w ≡ takesToken (token .0) r ⌝ }
+// The token is taken, of either machine, and the pivot given up.
+fn takes_token(token: Value, c: Core) -> Core
+    ensures { λ w. ⌜ w ≡ withLine 5 (withPivot none (withToken (token .0) c)) ⌝ }
 {
-    let mut w = r;
+    let mut w = c;
     w.token = token.0;
     w.pivot = NONE;
-    w.cells = [NONE; SLOTS];
     w.line = 5;
     w
 }
 
-// 4: token takes the next token; pivot and read cells become -1; line 5. Where the next token is refused, by 5, so is the step.
-fn line_4(algorithm: u8, n: u8, s: Seen, r: Row) -> Advanced
-    requires { ⌜ Count n ⌝ }
-    ensures { λ a. ⌜ a ≡ line4 algorithm n s r ⌝ }
+// 4: token takes the next token; pivot becomes -1; line 5. Where the next token is refused, by 5, so is the step. (`cleared` sets the read
+// cells.) It is given the answer of `next_token` for a token, and does with it what line 4 does with the token.
+pub(crate) fn line_4(next: Next, s: Seen, c: Core) -> Went
+    ensures { λ w. ⌜ ((algorithm : ℕ) (token : ℤ) → next ≡ judged algorithm token → w ≡ line4 algorithm token s c) ⌝ }
 {
-    let cells = r.cells;
-    let next = tokens::next_token(algorithm, n, table::pivot_of(r), cells);
-    if next.stop != refusal::NO_REFUSAL {
-        return kept(next.stop, s, r);
+    if next.stop > refusal::NO_REFUSAL {
+        return kept(next.stop, s, c);
     }
-    moved(s, takes_token(Value(next.token), r))
+    moved(s, takes_token(Value(next.token), c))
 }
 
 // 5: choosing becomes 0; then on to the smallest number other than i.
-fn line_5(n: u8, i: u8, s: Seen, r: Row) -> Advanced
-    ensures { λ a. ⌜ a ≡ line5 n i s r ⌝ }
+fn line_5(n: u8, i: u8, s: Seen, c: Core) -> Went
+    ensures { λ w. ⌜ w ≡ line5 n i s c ⌝ }
 {
-    let mut w = r;
+    let mut w = c;
     w.choosing = 0;
     moved(s, goes_on(n, i, 0, w))
 }
 
-// Lines 2 to 5.
-fn doorway(algorithm: u8, n: u8, i: u8, s: Seen, r: Row) -> Advanced
-    requires { ⌜ Ready n r × (2 ≤ r .line) × (r .line ≤ 5) ⌝ }
-    ensures { λ a. ⌜ a ≡ anyLine algorithm n i s r ⌝ }
-{
-    let line = r.line;
-    match line {
-        2 => line_2(n, s, r),
-        3 => line_3(s, r),
-        4 => line_4(algorithm, n, s, r),
-        _ => line_5(n, i, s, r),
-    }
-}
-
 // 6, index j: if choosing j is 0, line 7; else the step waits.
-fn line_6(s: Seen, r: Row) -> Advanced
-    ensures { λ a. ⌜ a ≡ line6 s r ⌝ }
+fn line_6(s: Seen, c: Core) -> Went
+    ensures { λ w. ⌜ w ≡ line6 s c ⌝ }
 {
     if s.choosing == 0 {
-        let mut w = r;
+        let mut w = c;
         w.line = 7;
         return moved(s, w);
     }
-    kept(refusal::NO_REFUSAL, s, r)
+    kept(refusal::NO_REFUSAL, s, c)
 }
 
 // Token j.
@@ -185,98 +158,109 @@ fn token_seen(s: Seen) -> Value
 }
 
 // Whether token j is -1 or i goes before j.
-fn passes(algorithm: u8, n: u8, i: u8, s: Seen, r: Row) -> bool
+fn passes(algorithm: u8, n: u8, i: u8, s: Seen, c: Core) -> bool
     requires { ⌜ Count n ⌝ }
-    ensures { λ b. ⌜ b ≡ passes algorithm n i s r ⌝ }
+    ensures { λ b. ⌜ b ≡ passes algorithm n i s c ⌝ }
 {
     if token_seen(s).is_none() {
         return true;
     }
-    tokens::goes_before(algorithm, n, i, table::token_of(r), r.index, token_seen(s))
+    tokens::goes_before(algorithm, n, i, table::token_of(c), c.index, token_seen(s))
 }
 
 // 7, index j: if token j is -1 or i goes before j, on to the next larger number; else the step waits.
-fn line_7(algorithm: u8, n: u8, i: u8, s: Seen, r: Row) -> Advanced
-    requires { ⌜ Ready n r ⌝ }
-    ensures { λ a. ⌜ a ≡ line7 algorithm n i s r ⌝ }
+fn line_7(algorithm: u8, n: u8, i: u8, s: Seen, c: Core) -> Went
+    requires { ⌜ Ready n c ⌝ }
+    ensures { λ w. ⌜ w ≡ line7 algorithm n i s c ⌝ }
 {
-    let j = r.index;
-    if passes(algorithm, n, i, s, r) {
-        return moved(s, goes_on(n, i, j, r));
+    let j = c.index;
+    if passes(algorithm, n, i, s, c) {
+        return moved(s, goes_on(n, i, j, c));
     }
-    kept(refusal::NO_REFUSAL, s, r)
+    kept(refusal::NO_REFUSAL, s, c)
 }
 
 // Lines 6 and 7.
-fn waiting(algorithm: u8, n: u8, i: u8, s: Seen, r: Row) -> Advanced
-    requires { ⌜ Ready n r × (6 ≤ r .line) × (r .line ≤ 7) ⌝ }
-    ensures { λ a. ⌜ a ≡ anyLine algorithm n i s r ⌝ }
+pub(crate) fn waiting_line(algorithm: u8, n: u8, i: u8, s: Seen, c: Core) -> Went
+    requires { ⌜ Ready n c × (6 ≤ c .line) × (c .line ≤ 7) ⌝ }
+    ensures { λ w. ⌜ ((next : ℤ) → w ≡ anyLine algorithm n i next s c) ⌝ }
 {
-    let line = r.line;
+    let line = c.line;
     match line {
-        6 => line_6(s, r),
-        _ => line_7(algorithm, n, i, s, r),
+        6 => line_6(s, c),
+        _ => line_7(algorithm, n, i, s, c),
     }
 }
 
 // 8: X takes the token; line 9. This step is the entry.
-fn line_8(r: Row) -> Advanced
-    ensures { λ a. ⌜ a ≡ line8 r ⌝ }
+fn line_8(c: Core) -> Went
+    ensures { λ w. ⌜ w ≡ line8 c ⌝ }
 {
-    let mut w = r;
+    let mut w = c;
     w.line = 9;
-    Advanced {
-        row: w,
-        x: r.token,
+    Went {
+        core: w,
+        x: c.token,
         mark: 1,
         stop: refusal::NO_REFUSAL,
     }
 }
 
 // 9: line 10.
-fn line_9(s: Seen, r: Row) -> Advanced
-    ensures { λ a. ⌜ a ≡ line9 s r ⌝ }
+fn line_9(s: Seen, c: Core) -> Went
+    ensures { λ w. ⌜ w ≡ line9 s c ⌝ }
 {
-    let mut w = r;
+    let mut w = c;
     w.line = 10;
     moved(s, w)
 }
 
 // 10: token becomes -1; line 1.
-fn line_10(s: Seen, r: Row) -> Advanced
-    ensures { λ a. ⌜ a ≡ line10 s r ⌝ }
+fn line_10(s: Seen, c: Core) -> Went
+    ensures { λ w. ⌜ w ≡ line10 s c ⌝ }
 {
-    let mut w = r;
+    let mut w = c;
     w.token = NONE;
     w.line = 1;
     moved(s, w)
 }
 
-// Lines 8 to 10.
-fn critical(s: Seen, r: Row) -> Advanced
-    requires { ⌜ (8 ≤ r .line) × (r .line ≤ 10) ⌝ }
-    ensures { λ a. ⌜ ((algorithm n i : ℕ) → a ≡ anyLine algorithm n i s r) ⌝ }
+// Of the doorway, lines 2 to 5, those that are not called by themselves: 3 and 5.
+fn doorway(n: u8, i: u8, s: Seen, c: Core) -> Went
+    requires { ⌜ OtherLine c × (2 ≤ c .line) × (c .line ≤ 5) ⌝ }
+    ensures { λ w. ⌜ ((algorithm : ℕ) (next : ℤ) → w ≡ anyLine algorithm n i next s c) ⌝ }
 {
-    let line = r.line;
+    let line = c.line;
     match line {
-        8 => line_8(r),
-        9 => line_9(s, r),
-        _ => line_10(s, r),
+        3 => line_3(s, c),
+        _ => line_5(n, i, s, c),
     }
 }
 
-// Lines 1 to 10: one step of process i, whose row is r and who sees s. A row that is ready stands at one of them; the last arm, to which none
-// comes, waits as the definition does.
-pub(crate) fn any_line(algorithm: u8, n: u8, i: u8, s: Seen, r: Row) -> Advanced
-    requires { ⌜ Ready n r ⌝ }
-    ensures { λ a. ⌜ a ≡ anyLine algorithm n i s r ⌝ }
+// Lines 8 to 10.
+fn critical(s: Seen, c: Core) -> Went
+    requires { ⌜ (8 ≤ c .line) × (c .line ≤ 10) ⌝ }
+    ensures { λ w. ⌜ ((algorithm n i : ℕ) (next : ℤ) → w ≡ anyLine algorithm n i next s c) ⌝ }
 {
-    let line = r.line;
+    let line = c.line;
     match line {
-        1 => line_1(s, r),
-        2..=5 => doorway(algorithm, n, i, s, r),
-        6..=7 => waiting(algorithm, n, i, s, r),
-        8..=10 => critical(s, r),
-        _ => kept(refusal::NO_REFUSAL, s, r),
+        8 => line_8(c),
+        9 => line_9(s, c),
+        _ => line_10(s, c),
+    }
+}
+
+// Every line but 2, 4, 6 and 7, which are called by themselves. A well-formed row stands at one of the ten; the last arm, to which none comes,
+// waits as the definition does.
+pub(crate) fn other_line(n: u8, i: u8, s: Seen, c: Core) -> Went
+    requires { ⌜ OtherLine c ⌝ }
+    ensures { λ w. ⌜ ((algorithm : ℕ) (next : ℤ) → w ≡ anyLine algorithm n i next s c) ⌝ }
+{
+    let line = c.line;
+    match line {
+        1 => line_1(s, c),
+        2..=5 => doorway(n, i, s, c),
+        8..=10 => critical(s, c),
+        _ => kept(refusal::NO_REFUSAL, s, c),
     }
 }

@@ -1,20 +1,32 @@
-// One step over a row: what it sees, and its line.
+// The pieces of a step around its line: where a row is, what it sees of the others, and the row that it leaves.
 ghost use mathlib.Core.Path.{_≡_};
-ghost use Rattle.machine.specs.Lines.{isReady, advanceOf};
-use crate::Advanced;
+ghost use Prim.Native.Nat.{_-_, _≤_};
+ghost use lib.ListN.{set};
+ghost use Rattle.fields.specs.Numbers.{slots};
+ghost use Rattle.table.specs.Fresh.{allNone};
+ghost use Rattle.tokens.specs.Answers.{nextOf};
+ghost use Rattle.machine.specs.Step.{seenIn};
 use crate::Seen;
-use crate::lines::any_line;
-use crate::lines::kept;
-use fields::FIRST_LINE;
-use fields::LAST_LINE;
-use fields::MOST_PROCESSES;
+use fields::NONE;
+use fields::SLOTS;
 use fields::Value;
-use fields::refusal;
+use table::Core;
 use table::Row;
+use tokens::Next;
+
+// The place of a process's row or read cell: process numbers start at 1.
+pub(crate) fn place_of(process: u8) -> usize
+    ensures { λ k. ⌜ k ≡ process - 1 ⌝ }
+{
+    if process < 1 {
+        return 0;
+    }
+    (process - 1) as usize
+}
 
 // What a step sees: X, and of the row at its index the choosing flag and the token.
-pub(crate) fn seen_of(x: Value, other: Row) -> Seen
-    ensures { λ s. ⌜ s ≡ record { choosing = other .choosing; token = other .token; x = x .0 } ⌝ }
+pub(crate) fn seen_in(x: Value, other: Core) -> Seen
+    ensures { λ s. ⌜ s ≡ seenIn (x .0) other ⌝ }
 {
     Seen {
         choosing: other.choosing,
@@ -23,22 +35,42 @@ pub(crate) fn seen_of(x: Value, other: Row) -> Seen
     }
 }
 
-// Whether n is a count, and the row's index and line are ones, that a table may have. No line asks more of its row.
-fn is_ready(n: u8, r: Row) -> bool
-    ensures { λ b. ⌜ b ≡ isReady n r ⌝ }
+// The next token that a row's pivot and read cells give.
+pub(crate) fn next_of(algorithm: u8, n: u8, r: Row) -> Next
+    ensures { λ v. ⌜ v ≡ nextOf algorithm n (r .core .pivot) (r .cells) ⌝ }
 {
-    fields::count_ok(n)
-        & (r.index <= MOST_PROCESSES)
-        & fields::number_within(FIRST_LINE, LAST_LINE, r.line)
+    let cells = r.cells;
+    tokens::next_token(algorithm, n, table::pivot_of(r.core), cells)
 }
 
-// One step of process i, whose row is r and who sees s: what `step` does to a row of its table. Refusal 3 for a count, an index or
-// a line that no table has, then 5.
-pub(crate) fn advance(algorithm: u8, n: u8, i: u8, s: Seen, r: Row) -> Advanced
-    ensures { λ a. ⌜ a ≡ advanceOf algorithm n i s r ⌝ }
+// The row with its core set anew.
+pub(crate) fn with_core(core: Core, r: Row) -> Row
+    ensures { λ w. ⌜ w ≡ record { core = core; cells = r .cells } ⌝ }
 {
-    if !is_ready(n, r) {
-        return kept(refusal::NOT_WELL_FORMED, s, r);
+    let mut w = r;
+    w.core = core;
+    w
+}
+
+// After line 2, index j: read cell j takes the token that is seen. The cells are changed as an array of their own: set inside the row, the
+// whole row would be copied.
+pub(crate) fn with_read(s: Seen, core: Core, r: Row) -> Row
+    requires { ⌜ r .core .index ≤ slots ⌝ }
+    ensures { λ w. ⌜ w ≡ record { core = core; cells = set (r .cells) (r .core .index - 1) (s .token) } ⌝ }
+{
+    let q = place_of(r.core.index);
+    let token = s.token;
+    let mut cells = r.cells;
+    cells[q] = token;
+    Row { core, cells }
+}
+
+// After line 4 the read cells are -1.
+pub(crate) fn cleared(core: Core) -> Row
+    ensures { λ w. ⌜ w ≡ record { core = core; cells = allNone } ⌝ }
+{
+    Row {
+        core,
+        cells: [NONE; SLOTS],
     }
-    any_line(algorithm, n, i, s, r)
 }

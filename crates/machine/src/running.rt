@@ -5,21 +5,28 @@ ghost use Prim.Native.Nat.{_+_, _-_, _<_, _≤_};
 ghost use lib.Dec.{eqb};
 ghost use lib.ListN.{length, set};
 ghost use Rattle.laws.specs.Tests.{within};
+ghost use Rattle.laws.specs.Lent.{inFront};
 ghost use Rattle.fields.specs.Numbers.{lineOfEntry};
 ghost use Rattle.table.specs.WellFormed.{wellFormed};
-ghost use Rattle.laws.specs.Lent.{inFront};
 ghost use Rattle.machine.specs.Run.{courseOf, enteredIn, waitingOf, answerOf, refusedRun, runOf, bufferOf};
 ghost use Rattle.machine.specs.Ended.{endedRun};
 use crate::Ran;
-use crate::rows::advance;
-use crate::rows::seen_of;
+use crate::lines::line_2;
+use crate::lines::line_4;
+use crate::lines::other_line;
+use crate::lines::waiting_line;
+use crate::rows::cleared;
+use crate::rows::next_of;
+use crate::rows::place_of;
+use crate::rows::seen_in;
+use crate::rows::with_core;
+use crate::rows::with_read;
 use fields::LINE_OF_ENTRY;
 use fields::SCHEDULE_LIMIT;
 use fields::SLOTS;
 use fields::Value;
 use fields::refusal;
 use table::Table;
-use table::place_of;
 
 // 1 for a row that waits, at line 6 or 7, and 0 for another.
 fn waits_at(line: u8) -> usize
@@ -39,7 +46,7 @@ fn waiting_in(t: Table) -> usize
     let mut waiting: usize = 0;
     let mut k: usize = 0;
     while k < SLOTS {
-        waiting += waits_at(t.rows[k].line);
+        waiting += waits_at(t.rows[k].core.line);
         k += 1;
     }
     waiting
@@ -91,8 +98,9 @@ fn note_entry(entries: &mut [u8], count: usize, line: u8, i: u8) -> usize
 }
 
 // The bytes of a schedule, taken one after another up to the first that is refused. A step keeps the table well formed, so it is not
-// checked again for each; and it touches its own row and X alone, so a row is what is taken out of the table and put back.
-fn course(start: Table, schedule: &[u8], entries: &mut [u8]) -> Ran
+// checked again for each; and it touches its own row and X alone. The row is copied out inside each arm of the `match`, changed, and put
+// back at once: one that passed through a join of arms would be copied whole once more.
+pub(crate) fn course(start: Table, schedule: &[u8], entries: &mut [u8]) -> Ran
     requires { ⌜ (wellFormed start ≡ true) × (length (now schedule) ≤ length (now entries)) ⌝ }
     ensures { λ r. ⌜ r ≡ answerOf (courseOf start (now (schedule .entry))) ⌝ }
     ensures { λ _. ⌜ now (entries .exit) ≡ inFront (enteredIn (courseOf start (now (schedule .entry)) .turns)) (now (entries .entry)) ⌝ }
@@ -108,19 +116,47 @@ fn course(start: Table, schedule: &[u8], entries: &mut [u8]) -> Ran
             return ended(t, moved, entered, k, refusal::BAD_PROCESS_NUMBER);
         }
         let p = place_of(i);
-        let r = t.rows[p];
-        let j = place_of(r.index);
-        let other = t.rows[j];
-        let a = advance(t.algorithm, t.n, i, seen_of(Value(t.x), other), r);
-        if a.stop > refusal::NO_REFUSAL {
-            return ended(t, moved, entered, k, a.stop);
+        let line = t.rows[p].core.line;
+        let q = place_of(t.rows[p].core.index);
+        let other = t.rows[q];
+        let s = seen_in(Value(t.x), other.core);
+        match line {
+            2 => {
+                let r = t.rows[p];
+                let w = line_2(t.n, s, r.core);
+                let row = with_read(s, w.core, r);
+                t.rows[p] = row;
+                moved += 1;
+            }
+            4 => {
+                let r = t.rows[p];
+                let w = line_4(next_of(t.algorithm, t.n, r), s, r.core);
+                if w.stop > refusal::NO_REFUSAL {
+                    return ended(t, moved, entered, k, w.stop);
+                }
+                let row = cleared(w.core);
+                t.rows[p] = row;
+                moved += 1;
+            }
+            6..=7 => {
+                let r = t.rows[p];
+                let w = waiting_line(t.algorithm, t.n, i, s, r.core);
+                if w.mark == 1 {
+                    let row = with_core(w.core, r);
+                    t.rows[p] = row;
+                    moved += 1;
+                }
+            }
+            _ => {
+                let r = t.rows[p];
+                let w = other_line(t.n, i, s, r.core);
+                entered = note_entry(entries, entered, line, i);
+                let row = with_core(w.core, r);
+                t.rows[p] = row;
+                t.x = w.x;
+                moved += 1;
+            }
         }
-        entered = note_entry(entries, entered, r.line, i);
-        let mark = a.mark as usize;
-        moved += mark;
-        let row = a.row;
-        t.rows[p] = row;
-        t.x = a.x;
         k = next;
     }
     ended(t, moved, entered, k, refusal::NO_REFUSAL)

@@ -4,10 +4,9 @@ use lib.IntN.{ℤ}
 use Rattle.fields.specs.declared.Value.{Value}
 use Rattle.promises.specs.Calls.{ValueOfNumberRelied, ValueEqualsRelied, ValueIsBelowRelied, ValueIsNoneRelied, NumberWithinRelied}
 use Rattle.promises.specs.Calls.{LimitOfRelied, AlgorithmOkRelied, CountOkRelied, XOkRelied, LineOkRelied, IndexOkRelied}
-use Rattle.promises.specs.Calls.{ChoosingOkRelied, TokenOkRelied, PivotOkRelied, MayHoldRelied, CellOkRelied, PlaceOfRelied}
-use Rattle.promises.specs.Calls.{XOfRelied, TokenOfRelied, PivotOfRelied, WellFormedRelied, FreshRelied, NextTokenRelied}
-use Rattle.promises.specs.Calls.{GoesBeforeRelied, StepRelied, RunRelied, WriteRelied}
-use Rattle.promises.specs.Calls.{ReadRelied, ListRelied}
+use Rattle.promises.specs.Calls.{ChoosingOkRelied, TokenOkRelied, PivotOkRelied, MayHoldRelied, CellOkRelied, XOfRelied}
+use Rattle.promises.specs.Calls.{TokenOfRelied, PivotOfRelied, WellFormedRelied, FreshRelied, NextTokenRelied, GoesBeforeRelied}
+use Rattle.promises.specs.Calls.{StepRelied, RunRelied, WriteRelied, ReadRelied, ListRelied}
 
 -- two answers that are both the definition's
 same : {A : Type 0} {definition a b : A} → a ≡ definition → b ≡ definition → a ≡ b
@@ -64,9 +63,6 @@ may-hold-relied = record { every-input = λ κs given. tt; one-answer = same }
 
 pub cell-ok-relied : CellOkRelied
 cell-ok-relied = record { every-input = λ κs given. tt; one-answer = same }
-
-pub place-of-relied : PlaceOfRelied
-place-of-relied = record { every-input = λ κs given. tt; one-answer = same }
 
 pub x-of-relied : XOfRelied
 x-of-relied = record { every-input = λ κs given. tt; one-answer = same-value }

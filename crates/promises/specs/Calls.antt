@@ -15,7 +15,6 @@ use Rattle.fields.proofs.token_ok
 use Rattle.fields.proofs.pivot_ok
 use Rattle.fields.proofs.may_hold
 use Rattle.fields.proofs.cell_ok
-use Rattle.table.proofs.place_of
 use Rattle.table.proofs.x_of
 use Rattle.table.proofs.token_of
 use Rattle.table.proofs.pivot_of
@@ -80,10 +79,7 @@ MayHoldRelied = Answers 0 may_hold.Kinds.ps may_hold.Kinds.r may_hold.Reads.Aske
 abbrev pub CellOkRelied : Type 0
 CellOkRelied = Answers 0 cell_ok.Kinds.ps cell_ok.Kinds.r cell_ok.Reads.Asked cell_ok.Reads.Learnt
 
--- `table`: the place and the numbers of a row, when a table is well formed, a fresh table
-abbrev pub PlaceOfRelied : Type 0
-PlaceOfRelied = Answers 0 place_of.Kinds.ps place_of.Kinds.r place_of.Reads.Asked place_of.Reads.Learnt
-
+-- `table`: the numbers of a table and of a core, when a table is well formed, a fresh table
 abbrev pub XOfRelied : Type 0
 XOfRelied = Answers 0 x_of.Kinds.ps x_of.Kinds.r x_of.Reads.Asked x_of.Reads.Learnt
 

@@ -6,9 +6,9 @@ use mathlib.Core.List.{List}
 use native.Mathlib.Omega.{arith}
 use borrow.Author.Tests.{le-leb, leb-true, eq-eqb, eqb-true}
 use lib.ListN.{length}
+use Rattle.laws.proofs.Tests.{_and_, within-yes}
 use Rattle.fields.specs.Numbers.{slots}
 use Rattle.table.specs.WellFormed.{cellRule}
-use Rattle.laws.proofs.Tests.{_and_, within-yes}
 use Rattle.table.proofs.WellFormed.{RowRules, TableRules}
 use Rattle.stored.specs.Form.{headKind, rowKind, cellsKind, headLength, formLength}
 use Rattle.stored.specs.Fields.{byteAt, rowPlace, cellsPlace, countIn, topIn, rowIn, tableIn}
@@ -44,11 +44,7 @@ module _ (s : List ℕ) where
         row = record { kind-byte = eqb-true _ _ kind; process-byte = eqb-true _ _ process };
         cells = record { kind-byte = eqb-true _ _ kind-again; process-byte = eqb-true _ _ process-again };
         rules = record {
-          line = line;
-          index = index;
-          choosing = choosing;
-          token = token;
-          pivot = pivot;
+          core = record { line = line; index = index; choosing = choosing; token = token; pivot = pivot };
           cells = λ j low high. rw (cell-in s i j low high) (turn-holds (cellCheck s i) slots cells j low high .0);
         };
       }
@@ -56,17 +52,17 @@ module _ (s : List ℕ) where
   kept-records : (i : ℕ) → Kept s i → Hold (recordsChecks s i)
   unfolding recordsChecks rowChecks fieldsChecks cellsChecks openingChecks cellCheck cellKeeps rowIn cellRule
   kept-records i kept =
-      let rules = kept .rules in
+      let core = kept .rules .core in
       eq-eqb _ _ (kept .row .kind-byte)
       and eq-eqb _ _ (kept .row .process-byte)
-      and rules .line
-      and rules .index
-      and rules .choosing
-      and rules .token
-      and rules .pivot
+      and core .line
+      and core .index
+      and core .choosing
+      and core .token
+      and core .pivot
       and eq-eqb _ _ (kept .cells .kind-byte)
       and eq-eqb _ _ (kept .cells .process-byte)
-      and turns-hold (cellCheck s i) slots (λ j low high. (rw (cell-in s i j low high) at (rules .cells j low high)) and tt)
+      and turns-hold (cellCheck s i) slots (λ j low high. (rw (cell-in s i j low high) at (kept .rules .cells j low high)) and tt)
 
   checks-kept : Hold (checksOf s) → Framed s × TableRules (tableIn s)
   unfolding checksOf startChecks headChecks lengthChecks

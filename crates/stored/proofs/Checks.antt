@@ -8,13 +8,13 @@ use mathlib.Core.Logic.{⊎-elim}
 use native.Mathlib.Omega.{arith}
 use native.Mathlib.Nat.{le-of-suc-le-suc, eq-or-lt-of-le}
 use native.Mathlib.Numerals.{add-one}
-use Rattle.laws.proofs.Tests.{up-to-next}
 use Rattle.laws.specs.InTurn.{inTurn}
+use Rattle.laws.proofs.Tests.{up-to-next}
+use Rattle.laws.proofs.InTurn.{turn-more}
 use Rattle.stored.specs.Reading.{Check, check, firstFault}
 use Rattle.stored.specs.declared.Fault.{Fault}
 use Rattle.stored.specs.declared.Search.{Search}
 use Rattle.stored.specs.declared.Search.the-variants.{Found, Nothing}
-use Rattle.laws.proofs.InTurn.{turn-more}
 
 -- every check of a list holds
 abbrev pub Hold : List Check → Type 0

@@ -5,11 +5,11 @@ use mathlib.Core.List.{List, [], _∷_, _++_, append-assoc}
 use native.Mathlib.Omega.{arith}
 use lib.ListN.{length, getD, replicate, set, length-append, length-replicate, getD-replicate}
 use lib.Seq.{set-at}
-use Rattle.fields.specs.Numbers.{slots}
 use Rattle.laws.specs.InTurn.{inTurn}
-use Rattle.stored.specs.Fields.{filled}
 use Rattle.laws.proofs.InTurn.{turn-more, turn-length}
 use Rattle.laws.proofs.Standing.{stands-itself, stands-first, first-stands, second-stands, turn-stands}
+use Rattle.fields.specs.Numbers.{slots}
+use Rattle.stored.specs.Fields.{filled}
 
 -- Its elements.
 module _ {A : Type 0} (f : ℕ → A) (k : ℕ) (rest : A) where

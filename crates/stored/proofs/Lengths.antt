@@ -1,4 +1,4 @@
--- The lengths of the records.
+-- The lengths of a number, of the records and of the form.
 use Prim.Native.Nat.{ℕ, _+_}
 use mathlib.Core.Path.{_≡_, refl, _∙_}
 use lib.IntN.{ℤ}
@@ -7,6 +7,7 @@ use Rattle.laws.specs.InTurn.{inTurn}
 use Rattle.laws.proofs.InTurn.{turn-length}
 use Rattle.fields.specs.Numbers.{slots}
 use Rattle.table.specs.WellFormed.{rowOf, cellOf}
+use Rattle.table.specs.declared.Core.{Core}
 use Rattle.table.specs.declared.Row.{Row}
 use Rattle.table.specs.declared.Table.{Table}
 use Rattle.stored.specs.FourBytes.{fourDigits, fourBytes}
@@ -21,9 +22,9 @@ pub head-length : (t : Table) → length (headRecord t) ≡ headLength
 unfolding headRecord fourBytes fourDigits
 head-length t = refl
 
-pub row-length : (i : ℕ) (r : Row) → length (rowRecord i r) ≡ rowLength
+pub row-length : (i : ℕ) (c : Core) → length (rowRecord i c) ≡ rowLength
 unfolding rowRecord fourBytes fourDigits
-row-length i r = refl
+row-length i c = refl
 
 pub cells-length : (i : ℕ) (r : Row) → length (cellsRecord i r) ≡ cellsLength
 unfolding cellsRecord
@@ -31,7 +32,9 @@ cells-length i r = rw (turn-length (λ j. fourBytes (cellOf r j)) 4 (λ j. four-
 
 pub records-length : (t : Table) (i : ℕ) → length (recordsOf t i) ≡ rowLength + cellsLength
 unfolding recordsOf
-records-length t i = length-append (rowRecord i (rowOf t i)) (cellsRecord i (rowOf t i)) ∙ rw (row-length i (rowOf t i), cells-length i (rowOf t i))
+records-length t i =
+    let r = rowOf t i in
+    length-append (rowRecord i (r .core)) (cellsRecord i r) ∙ rw (row-length i (r .core), cells-length i r)
 
 pub encode-length : (t : Table) → length (encode t) ≡ formLength (t .n)
 unfolding encode

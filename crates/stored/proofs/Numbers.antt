@@ -9,10 +9,10 @@ use lib.IntN.{ℤ, pos, negsuc}
 use mir.Syntax.{w32}
 use mir.Val.{SFits}
 use Rattle.laws.proofs.Tests.{by-test}
+use Rattle.laws.proofs.Standing.{Stands, stands-first, listed-stand}
 use Rattle.stored.specs.FourBytes.{allBits, bitsOf, fourDigits, fourBytes}
 use Rattle.stored.specs.Fields.{numberOf, byteAt, bitsAt, numberAt}
 use Rattle.stored.proofs.Signs.{back-again, bits-fit}
-use Rattle.laws.proofs.Standing.{Stands, stands-first, listed-stand}
 
 -- A number and its bits.
 number-bits : (v : ℤ) → SFits w32 v → numberOf (bitsOf v) ≡ v

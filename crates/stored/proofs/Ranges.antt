@@ -9,9 +9,9 @@ use lib.IntN.{ℤ, pos, negsuc}
 use mir.Syntax.{w32}
 use mir.Val.{SFits}
 use Rattle.laws.specs.Tests.{within, withinℤ}
+use Rattle.laws.proofs.Tests.{by-test, and-halves}
 use Rattle.fields.specs.Numbers.{slots, none, isNone, unbounded, tokenLimit, limitOf, topOf}
 use Rattle.fields.specs.Rules.{xOk, tokenOk, pivotOk, cellOk}
-use Rattle.laws.proofs.Tests.{by-test, and-halves}
 use Rattle.table.proofs.WellFormed.{is-none}
 
 none-fits : (v : ℤ) → isNone v ≡ true → SFits w32 v

@@ -7,20 +7,21 @@ use native.Mathlib.Omega.{arith}
 use lib.IntN.{ℤ, pos}
 use lib.ListN.{length, getD}
 use lib.Seq.{ext-getD}
-use Rattle.fields.specs.Numbers.{slots}
+use Rattle.laws.specs.InTurn.{inTurn}
+use Rattle.laws.proofs.Tests.{within-yes}
+use Rattle.laws.proofs.Standing.{Stands, stands-first, first-stands, second-stands, turn-stands}
+use Rattle.fields.specs.Numbers.{slots, topOf}
 use Rattle.table.specs.WellFormed.{noRow, rowOf, cellOf, cellRule, wellFormed}
 use Rattle.table.specs.Fresh.{freshRow}
 use Rattle.table.specs.Sized.{Sized}
+use Rattle.table.specs.declared.Core.{Core}
 use Rattle.table.specs.declared.Row.{Row}
 use Rattle.table.specs.declared.Table.{Table}
-use Rattle.laws.proofs.Tests.{within-yes}
-use Rattle.table.proofs.WellFormed.{RowRules, TableRules, above-fresh}
+use Rattle.table.proofs.WellFormed.{CoreRules, RowRules, TableRules, above-fresh}
 use Rattle.stored.specs.FourBytes.{fourDigits, fourBytes}
-use Rattle.laws.specs.InTurn.{inTurn}
 use Rattle.stored.specs.Form.{headKind, rowKind, cellsKind, headRecord, rowRecord, cellsRecord, formLength}
-use Rattle.stored.specs.Fields.{algorithmIn, countIn, xIn, topIn, rowIn, tableIn}
+use Rattle.stored.specs.Fields.{rowPlace, algorithmIn, countIn, xIn, topIn, coreIn, rowIn, tableIn}
 use Rattle.stored.proofs.Lengths.{four-length}
-use Rattle.laws.proofs.Standing.{Stands, stands-first, first-stands, second-stands, turn-stands}
 use Rattle.stored.proofs.Numbers.{number-read}
 use Rattle.stored.proofs.Ranges.{x-fits, token-fits, pivot-fits, cell-fits}
 use Rattle.stored.proofs.TableIn.{cell-in, each-row, row-in-sized, table-in-sized, table-in-rules}
@@ -34,13 +35,9 @@ same-sixteen d l m el em each =
     ext-getD d l m (el ∙ sym em)
     (λ k h. let off : suc k - 1 ≡ k = omega arith in rw off at (each (suc k) (omega arith) (omega arith)))
 
--- Two rows are alike: the same fields, and the same cells 1 to 16.
+-- Two rows are alike: the same core, and the same cells 1 to 16.
 record Alike (r q : Row) : Type 0 where
-  line : r .line ≡ q .line
-  index : r .index ≡ q .index
-  choosing : r .choosing ≡ q .choosing
-  token : r .token ≡ q .token
-  pivot : r .pivot ≡ q .pivot
+  core : r .core ≡ q .core
   cells : (j : ℕ) → 1 ≤ j → j ≤ slots → cellOf r j ≡ cellOf q j
 
 -- Then the one keeps the rules where the other does, and they are the same where both have sixteen cells.
@@ -48,29 +45,39 @@ alike-rules : {r q : Row} → Alike r q → (top : ℤ) (n i : ℕ) → RowRules
 unfolding cellRule
 alike-rules a top n i rules =
     record {
-      line = rw (a .line) (rules .line);
-      index = rw (a .line, a .index) (rules .index);
-      choosing = rw (a .line, a .choosing) (rules .choosing);
-      token = rw (a .line, a .token) (rules .token);
-      pivot = rw (a .line, a .pivot) (rules .pivot);
-      cells = λ j low high. rw (a .line, a .index, a .cells j low high) (rules .cells j low high);
+      core = rw (a .core) (rules .core);
+      cells = λ j low high. rw (a .core, a .cells j low high) (rules .cells j low high);
     }
 
 alike-same : (r q : Row) → Alike r q → length (r .cells) ≡ slots → length (q .cells) ≡ slots → r ≡ q
 alike-same r q a r-sized q-sized =
     let cells = same-sixteen (pos 0) (r .cells) (q .cells) r-sized q-sized (a .cells) in
-    λ at. record {
-      line = a .line at;
-      index = a .index at;
-      choosing = a .choosing at;
-      token = a .token at;
-      pivot = a .pivot at;
-      cells = cells at;
-    }
+    λ at. record { core = a .core at; cells = cells at }
 
 -- where the first two bytes of a record stand, it opens right
 opens : {s : List ℕ} {kind i at : ℕ} (later : List ℕ) → Stands 0 s at (kind ∷ i ∷ later) → Opens s kind i at
 opens later h = record { kind-byte = stands-first _ _ h; process-byte = h .each 1 (omega arith) }
+
+-- where the record of a core that keeps the rules stands, that core is read
+core-read : {s : List ℕ} (algorithm n i : ℕ) (c : Core) → n ≤ slots → CoreRules (topOf algorithm n) n i c
+    → Stands 0 s (rowPlace i) (rowRecord i c) → coreIn s i ≡ c
+unfolding rowRecord fourBytes fourDigits
+core-read algorithm n i c few rules row =
+    let five : List ℕ = rowKind ∷ i ∷ c .line ∷ c .index ∷ c .choosing ∷ [] in
+    let token = second-stands five (fourBytes (c .token)) (first-stands (five ++ fourBytes (c .token)) (fourBytes (c .pivot)) row) in
+    let pivot = second-stands (five ++ fourBytes (c .token)) (fourBytes (c .pivot)) row in
+    let line-read = row .each 2 (omega arith) in
+    let index-read = row .each 3 (omega arith) in
+    let choosing-read = row .each 4 (omega arith) in
+    let token-read = number-read (c .token) (token-fits algorithm n few _ _ (rules .token)) token in
+    let pivot-read = number-read (c .pivot) (pivot-fits algorithm n few _ _ (rules .pivot)) pivot in
+    λ at. record {
+      line = line-read at;
+      index = index-read at;
+      choosing = choosing-read at;
+      token = token-read at;
+      pivot = pivot-read at;
+    }
 
 module _ {s : List ℕ} {t : Table} (records : Records s t) (rules : TableRules t) where
   -- the head is read
@@ -90,22 +97,14 @@ module _ {s : List ℕ} {t : Table} (records : Records s t) (rules : TableRules 
 
   -- each row is read, but for how many cells the table's own row has
   row-read : (i : ℕ) → 1 ≤ i → i ≤ t .n → Alike (rowIn s i) (rowOf t i)
-  unfolding rowIn rowRecord cellsRecord fourBytes fourDigits cellRule
+  unfolding rowIn cellsRecord cellRule
   row-read i low high =
       let r = rowOf t i in
       let rule = rules .rows i low (omega (arith, rules .most)) in
-      let row = records .row i low high in
-      let five : List ℕ = rowKind ∷ i ∷ r .line ∷ r .index ∷ r .choosing ∷ [] in
-      let token = second-stands five (fourBytes (r .token)) (first-stands (five ++ fourBytes (r .token)) (fourBytes (r .pivot)) row) in
-      let pivot = second-stands (five ++ fourBytes (r .token)) (fourBytes (r .pivot)) row in
       let cell : ℕ → List ℕ = λ j. fourBytes (cellOf r j) in
       let cells = second-stands (cellsKind ∷ i ∷ []) (inTurn cell slots) (records .cells i low high) in
       record {
-        line = row .each 2 (omega arith);
-        index = row .each 3 (omega arith);
-        choosing = row .each 4 (omega arith);
-        token = number-read (r .token) (token-fits _ _ (rules .most) _ _ (rule .token)) token;
-        pivot = number-read (r .pivot) (pivot-fits _ _ (rules .most) _ _ (rule .pivot)) pivot;
+        core = core-read (t .algorithm) (t .n) i (r .core) (rules .most) (rule .core) (records .row i low high);
         cells = λ j first last.
             cell-in s i j first last
             ∙ number-read (cellOf r j) (cell-fits _ _ (rules .most) _ _ (rule .cells j first last))

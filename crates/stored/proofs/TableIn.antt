@@ -7,13 +7,13 @@ use native.Mathlib.Omega.{arith}
 use native.Mathlib.Decide.{decLe}
 use lib.IntN.{pos}
 use lib.ListN.{length, length-replicate}
+use Rattle.laws.proofs.Tests.{within-low, within-high}
 use Rattle.fields.specs.Numbers.{slots, none}
 use Rattle.fields.specs.Rules.{algorithmOk, countOk, xOk}
 use Rattle.table.specs.WellFormed.{rowOf, cellOf, noRow}
 use Rattle.table.specs.Fresh.{freshRow}
 use Rattle.table.specs.Sized.{Sized}
 use Rattle.table.specs.declared.Row.{Row}
-use Rattle.laws.proofs.Tests.{within-low, within-high}
 use Rattle.table.proofs.WellFormed.{RowRules, TableRules, fresh-row-rules}
 use Rattle.stored.specs.Fields.{algorithmIn, countIn, xIn, topIn, cellIn, rowIn, tableIn}
 use Rattle.stored.proofs.Filled.{filled-length, filled-first, filled-after}

@@ -7,11 +7,11 @@ use native.Mathlib.Omega.{arith}
 use borrow.Author.Tests.{le-leb, lt-leb, leb-true, eqb-true}
 use lib.Dec.{leb, eqb}
 use lib.ListN.{length}
+use Rattle.laws.specs.Lent.{inFront}
+use Rattle.laws.proofs.Tests.{by-test}
 use Rattle.fields.specs.Refusals.{noRefusal, notWellFormed, bufferTooShort}
 use Rattle.table.specs.WellFormed.{wellFormed}
-use Rattle.laws.specs.Lent.{inFront}
 use Rattle.table.specs.declared.Table.{Table}
-use Rattle.laws.proofs.Tests.{by-test}
 use Rattle.stored.specs.Form.{encode, formLength}
 use Rattle.stored.specs.Writing.{writeRefusal, writeOf, bufferOf}
 

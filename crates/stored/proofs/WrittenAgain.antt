@@ -2,14 +2,14 @@
 use Prim.Native.Nat.{ℕ, _+_, _<_, _≤_}
 use mathlib.Core.Path.{_≡_, refl, sym, _∙_}
 use mathlib.Core.List.{List, [], _∷_, _++_}
+use Rattle.laws.specs.InTurn.{inTurn}
+use Rattle.laws.proofs.Standing.{Stands, stands-whole, listed-stand, both-stand, turns-stand}
 use Rattle.fields.specs.Numbers.{slots}
 use Rattle.table.specs.WellFormed.{cellOf}
 use Rattle.stored.specs.FourBytes.{fourDigits, fourBytes}
-use Rattle.laws.specs.InTurn.{inTurn}
 use Rattle.stored.specs.Form.{headKind, rowKind, cellsKind, headRecord, rowRecord, cellsRecord, encode}
-use Rattle.stored.specs.Fields.{byteAt, rowPlace, cellsPlace, cellPlace, countIn, rowIn, tableIn}
+use Rattle.stored.specs.Fields.{byteAt, rowPlace, cellsPlace, cellPlace, countIn, coreIn, rowIn, tableIn}
 use Rattle.stored.proofs.Lengths.{four-length, encode-length}
-use Rattle.laws.proofs.Standing.{Stands, stands-whole, listed-stand, both-stand, turns-stand}
 use Rattle.stored.proofs.Numbers.{number-again}
 use Rattle.stored.proofs.TableIn.{cell-in, row-in}
 use Rattle.stored.proofs.Records.{Records, records-whole}
@@ -24,14 +24,14 @@ module _ (s : List ℕ) (bytes : (k : ℕ) → byteAt s k < 256) (frame : Framed
       (listed-stand _ _ (frame .kind-byte) (refl, (refl, tt))) (number-again s bytes 3)
 
   module _ (i : ℕ) (low : 1 ≤ i) (high : i ≤ countIn s) where
-    row-again : Stands 0 s (rowPlace i) (rowRecord i (rowIn s i))
-    unfolding rowRecord rowIn fourBytes fourDigits
+    row-again : Stands 0 s (rowPlace i) (rowRecord i (coreIn s i))
+    unfolding rowRecord fourBytes fourDigits
     row-again =
-        let r = rowIn s i in
+        let c = coreIn s i in
         let opening = frame .row i low high in
-        let five : List ℕ = rowKind ∷ i ∷ r .line ∷ r .index ∷ r .choosing ∷ [] in
-        both-stand (five ++ fourBytes (r .token)) (fourBytes (r .pivot))
-        (both-stand five (fourBytes (r .token))
+        let five : List ℕ = rowKind ∷ i ∷ c .line ∷ c .index ∷ c .choosing ∷ [] in
+        both-stand (five ++ fourBytes (c .token)) (fourBytes (c .pivot))
+        (both-stand five (fourBytes (c .token))
         (listed-stand _ _ (opening .kind-byte) (opening .process-byte, (refl, (refl, (refl, tt)))))
         (number-again s bytes (rowPlace i + 5)))
         (number-again s bytes (rowPlace i + 9))
@@ -47,7 +47,7 @@ module _ (s : List ℕ) (bytes : (k : ℕ) → byteAt s k < 256) (frame : Framed
         (λ j first last. rw (cell-in s i j first last) (number-again s bytes (cellPlace i j))))
 
   records-again : Records s (tableIn s)
-  unfolding tableIn
+  unfolding tableIn rowIn
   records-again =
       record {
         head = head-again;

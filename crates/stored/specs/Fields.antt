@@ -5,11 +5,12 @@ use mathlib.Core.List.{List, [], _∷_, _++_}
 use lib.Dec.{ltb}
 use lib.IntN.{ℤ, pos, negsuc}
 use lib.ListN.{getD, replicate}
+use Rattle.laws.specs.InTurn.{inTurn}
 use Rattle.fields.specs.Numbers.{slots, none, topOf}
 use Rattle.table.specs.Fresh.{freshRow}
+use Rattle.table.specs.declared.Core.{Core}
 use Rattle.table.specs.declared.Row.{Row}
 use Rattle.table.specs.declared.Table.{Table}
-use Rattle.laws.specs.InTurn.{inTurn}
 use Rattle.stored.specs.FourBytes.{allBits}
 use Rattle.stored.specs.Form.{rowLength, formLength}
 
@@ -95,20 +96,23 @@ pivotIn s i = numberAt s (pivotPlace i)
 abbrev pub cellIn : List ℕ → ℕ → ℕ → ℤ
 cellIn s i j = numberAt s (cellPlace i j)
 
+-- the core of process i in a form
+abbrev pub coreIn : List ℕ → ℕ → Core
+coreIn s i = record {
+  line = lineIn s i;
+  index = indexIn s i;
+  choosing = choosingIn s i;
+  token = tokenIn s i;
+  pivot = pivotIn s i;
+}
+
 -- sixteen elements: f 1 to f k, and then `rest` up to the sixteenth
 unfoldable pub filled : {A : Type 0} → (ℕ → A) → ℕ → A → List A
 filled f k rest = inTurn (λ i. f i ∷ []) k ++ replicate (slots - k) rest
 
 -- the row of process i in a form: all of its sixteen cells are there
 unfoldable pub rowIn : List ℕ → ℕ → Row
-rowIn s i = record {
-  line = lineIn s i;
-  index = indexIn s i;
-  choosing = choosingIn s i;
-  token = tokenIn s i;
-  pivot = pivotIn s i;
-  cells = filled (cellIn s i) slots none;
-}
+rowIn s i = record { core = coreIn s i; cells = filled (cellIn s i) slots none }
 
 -- the table in a form: its rows are 1 to n, and those above are as in a fresh table
 unfoldable pub tableIn : List ℕ → Table

@@ -4,6 +4,7 @@ use mathlib.Core.List.{List, [], _∷_, _++_}
 use Rattle.laws.specs.InTurn.{inTurn}
 use Rattle.fields.specs.Numbers.{slots}
 use Rattle.table.specs.WellFormed.{rowOf, cellOf}
+use Rattle.table.specs.declared.Core.{Core}
 use Rattle.table.specs.declared.Row.{Row}
 use Rattle.table.specs.declared.Table.{Table}
 use Rattle.stored.specs.FourBytes.{fourBytes}
@@ -23,8 +24,8 @@ unfoldable pub headRecord : Table → List ℕ
 headRecord t = (headKind ∷ t .algorithm ∷ t .n ∷ []) ++ fourBytes (t .x)
 
 -- "kind 2, body 12: process number, line, index, choosing, token (4), pivot (4)."
-unfoldable pub rowRecord : ℕ → Row → List ℕ
-rowRecord i r = (rowKind ∷ i ∷ r .line ∷ r .index ∷ r .choosing ∷ []) ++ fourBytes (r .token) ++ fourBytes (r .pivot)
+unfoldable pub rowRecord : ℕ → Core → List ℕ
+rowRecord i c = (rowKind ∷ i ∷ c .line ∷ c .index ∷ c .choosing ∷ []) ++ fourBytes (c .token) ++ fourBytes (c .pivot)
 
 -- "kind 3, body 65: process number, sixteen read cells (4 each)."
 unfoldable pub cellsRecord : ℕ → Row → List ℕ
@@ -32,7 +33,7 @@ cellsRecord i r = (cellsKind ∷ i ∷ []) ++ inTurn (λ j. fourBytes (cellOf r 
 
 -- the two records of process i
 unfoldable pub recordsOf : Table → ℕ → List ℕ
-recordsOf t i = rowRecord i (rowOf t i) ++ cellsRecord i (rowOf t i)
+recordsOf t i = rowRecord i (rowOf t i .core) ++ cellsRecord i (rowOf t i)
 
 -- "Order: kind 1, then for each process 1 to n kind 2 and kind 3."
 unfoldable pub encode : Table → List ℕ

@@ -4,11 +4,11 @@ use mathlib.Core.Bool.{Bool, cond}
 use mathlib.Core.List.{List, [], _∷_, _++_}
 use lib.Dec.{leb, eqb}
 use lib.ListN.{length}
+use Rattle.laws.specs.InTurn.{inTurn}
 use Rattle.fields.specs.Numbers.{slots, unbounded}
 use Rattle.fields.specs.Refusals.{noRefusal, formTooShort, wrongKind, formTooLong, badField}
 use Rattle.fields.specs.Rules.{algorithmOk, countOk, xOk, lineOk, indexOk, choosingOk, tokenOk, pivotOk, mayHold, cellOk}
 use Rattle.table.specs.Fresh.{freshTable}
-use Rattle.laws.specs.InTurn.{inTurn}
 use Rattle.stored.specs.Form.{headKind, rowKind, cellsKind, headLength, formLength}
 use Rattle.stored.specs.Fields.{byteAt, algorithmPlace, countPlace, xPlace, rowPlace, linePlace, indexPlace, choosingPlace}
 use Rattle.stored.specs.Fields.{tokenPlace, pivotPlace, cellsPlace, cellPlace, algorithmIn, countIn, topIn, xIn, lineIn, indexIn}

@@ -4,9 +4,9 @@ use mathlib.Core.Bool.{cond}
 use mathlib.Core.List.{List}
 use lib.Dec.{leb, eqb}
 use lib.ListN.{length}
+use Rattle.laws.specs.Lent.{inFront}
 use Rattle.fields.specs.Refusals.{noRefusal, notWellFormed, bufferTooShort}
 use Rattle.table.specs.WellFormed.{wellFormed}
-use Rattle.laws.specs.Lent.{inFront}
 use Rattle.table.specs.declared.Table.{Table}
 use Rattle.stored.specs.Form.{encode, formLength}
 use Rattle.stored.specs.declared.Wrote.{Wrote}

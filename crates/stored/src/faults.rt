@@ -2,8 +2,8 @@
 ghost use mathlib.Core.Path.{_≡_};
 ghost use Prim.Native.Nat.{_+_, _≤_};
 ghost use lib.ListN.{length};
-ghost use Rattle.fields.specs.Numbers.{slots};
 ghost use Rattle.laws.specs.InTurn.{inTurn};
+ghost use Rattle.fields.specs.Numbers.{slots};
 ghost use Rattle.stored.specs.Form.{headLength, formLength};
 ghost use Rattle.stored.specs.Fields.{countIn, topIn};
 ghost use Rattle.stored.specs.Reading.{refusalOf, firstFault, headChecks, lengthChecks, openingChecks, fieldsChecks, rowChecks};

@@ -5,7 +5,7 @@ ghost use lib.ListN.{length};
 ghost use Rattle.fields.specs.Numbers.{slots, none, unbounded};
 ghost use Rattle.table.specs.Fresh.{freshTable};
 ghost use Rattle.stored.specs.Form.{formLength};
-ghost use Rattle.stored.specs.Fields.{countIn, cellIn, filled, rowIn, tableIn};
+ghost use Rattle.stored.specs.Fields.{countIn, coreIn, cellIn, filled, rowIn, tableIn};
 ghost use Rattle.stored.specs.Reading.{refusedRead, readOf};
 use crate::ALGORITHM_PLACE;
 use crate::CHOOSING_PLACE;
@@ -28,6 +28,7 @@ use fields::NONE;
 use fields::SLOTS;
 use fields::UNBOUNDED;
 use fields::refusal;
+use table::Core;
 use table::Row;
 use table::Table;
 
@@ -45,21 +46,29 @@ fn cells_in(form: &[u8], process: u8) -> [i32; SLOTS]
     cells
 }
 
-fn row_in(form: &[u8], process: u8) -> Row
+fn core_in(form: &[u8], process: u8) -> Core
     requires { ⌜ (1 ≤ process) × (formLength process ≤ length (now form)) ⌝ }
-    ensures { λ r. ⌜ r ≡ rowIn (now (form .entry)) process ⌝ }
+    ensures { λ c. ⌜ c ≡ coreIn (now (form .entry)) process ⌝ }
 {
     let at = row_place(process);
     let token = number_at(form, at + TOKEN_PLACE).0;
     let pivot = number_at(form, at + PIVOT_PLACE).0;
-    let cells = cells_in(form, process);
-    Row {
+    Core {
         line: form[at + LINE_PLACE],
         index: form[at + INDEX_PLACE],
         choosing: form[at + CHOOSING_PLACE],
         token,
         pivot,
-        cells,
+    }
+}
+
+fn row_in(form: &[u8], process: u8) -> Row
+    requires { ⌜ (1 ≤ process) × (formLength process ≤ length (now form)) ⌝ }
+    ensures { λ r. ⌜ r ≡ rowIn (now (form .entry)) process ⌝ }
+{
+    Row {
+        core: core_in(form, process),
+        cells: cells_in(form, process),
     }
 }
 

@@ -4,11 +4,11 @@ ghost use mathlib.Core.Bool.{true};
 ghost use mathlib.Core.List.{[], _∷_};
 ghost use Prim.Native.Nat.{_+_, _*_, _<_, _≤_};
 ghost use lib.ListN.{length};
+ghost use Rattle.laws.specs.Lent.{Written};
+ghost use Rattle.laws.specs.InTurn.{inTurn};
 ghost use Rattle.fields.specs.Numbers.{slots};
 ghost use Rattle.table.specs.WellFormed.{wellFormed, cellOf};
-ghost use Rattle.laws.specs.Lent.{Written};
 ghost use Rattle.stored.specs.FourBytes.{fourBytes};
-ghost use Rattle.laws.specs.InTurn.{inTurn};
 ghost use Rattle.stored.specs.Form.{headRecord, rowRecord, cellsRecord, recordsOf, encode, headLength, rowLength};
 ghost use Rattle.stored.specs.Form.{cellsLength, formLength};
 ghost use Rattle.stored.specs.Writing.{writeOf, bufferOf};
@@ -22,6 +22,7 @@ use crate::places::form_length;
 use fields::SLOTS;
 use fields::Value;
 use fields::refusal;
+use table::Core;
 use table::Row;
 use table::Table;
 
@@ -45,16 +46,16 @@ fn put_opening(buffer: &mut [u8], at: usize, kind: u8, process: u8) -> usize
     put_byte(buffer, number, process)
 }
 
-fn put_row(buffer: &mut [u8], at: usize, process: u8, r: Row) -> usize
+fn put_row(buffer: &mut [u8], at: usize, process: u8, c: Core) -> usize
     requires { ⌜ at + rowLength ≤ length (now buffer) ⌝ }
-    ensures { λ next. ⌜ Written (now (buffer .entry)) at (rowRecord process r) (now (buffer .exit)) next ⌝ }
+    ensures { λ next. ⌜ Written (now (buffer .entry)) at (rowRecord process c) (now (buffer .exit)) next ⌝ }
 {
     let line = put_opening(buffer, at, ROW_KIND, process);
-    let index = put_byte(buffer, line, r.line);
-    let choosing = put_byte(buffer, index, r.index);
-    let token = put_byte(buffer, choosing, r.choosing);
-    let pivot = put_number(buffer, token, table::token_of(r));
-    put_number(buffer, pivot, table::pivot_of(r))
+    let index = put_byte(buffer, line, c.line);
+    let choosing = put_byte(buffer, index, c.index);
+    let token = put_byte(buffer, choosing, c.choosing);
+    let pivot = put_number(buffer, token, table::token_of(c));
+    put_number(buffer, pivot, table::pivot_of(c))
 }
 
 fn put_cell_numbers(buffer: &mut [u8], at: usize, r: Row) -> usize
@@ -86,7 +87,7 @@ fn put_records(buffer: &mut [u8], at: usize, t: Table, k: usize) -> usize
 {
     let process = (k as u8) + 1;
     let r = t.rows[k];
-    let cells = put_row(buffer, at, process, r);
+    let cells = put_row(buffer, at, process, r.core);
     put_cells(buffer, cells, process, r)
 }
 

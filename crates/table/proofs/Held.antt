@@ -31,7 +31,7 @@ module _ {D X : Type 0} (own : D → List Val → Fml) (into : X → D) (P : X �
 
 row-sized : (r : Row) (vs : List Val) → shadow (row-type.the-field .row .own (row-type.the-field .into r) vs)
     → length (r .cells) ≡ slots
-row-sized r vs s = length-unmapped _ (r .cells) slots (s .1 .1 .1 .1 .1 .1 .1 .0 .1 .0 .1)
+row-sized r vs s = length-unmapped _ (r .cells) slots (s .1 .1 .1 .0 .1 .0 .1)
 
 pub held-sized : (t : Table) (vs : List Val) → shadow (declared.row table-type.the-type .own t vs) → Sized t
 held-sized t vs s =

@@ -9,23 +9,28 @@ use lib.IntN.{ℤ, pos, negsuc}
 use lib.ListN.{length, getD, length-replicate, getD-replicate}
 use lib.Seq.{ext-getD}
 use Rattle.laws.specs.Tests.{within, withinℤ}
+use Rattle.laws.proofs.Tests.{by-test, and-both, and-halves, within-low, within-high, within-yes, every-at, every-all}
 use Rattle.fields.specs.Numbers.{slots, firstLine, lastLine, none, isNone, unbounded, limitOf, topOf}
 use Rattle.fields.specs.Rules.{algorithmOk, countOk, xOk, lineOk, indexOk, choosingOk, tokenOk, pivotOk, mayHold, cellOk}
-use Rattle.table.specs.WellFormed.{rowOf, cellOf, noRow, cellRule, cellsOk, rowOk, rowRule, rowsOk, wellFormed}
+use Rattle.table.specs.WellFormed.{rowOf, cellOf, noRow, cellRule, cellsOk, coreOk, rowOk, rowRule, rowsOk, wellFormed}
 use Rattle.table.specs.Fresh.{allNone, freshRow, freshTable, freshOf}
 use Rattle.table.specs.Sized.{Sized}
+use Rattle.table.specs.declared.Core.{Core}
 use Rattle.table.specs.declared.Row.{Row}
 use Rattle.table.specs.declared.Table.{Table}
 use Rattle.table.specs.declared.Started.{Started}
-use Rattle.laws.proofs.Tests.{by-test, and-both, and-halves, within-low, within-high, within-yes, every-at, every-all}
 
--- the rules of row i, each by its name
+-- the rules of the core of row i, each by its name
+pub record CoreRules (top : ℤ) (n i : ℕ) (c : Core) : Type 0 where
+  pub line : lineOk n i (c .line) ≡ true
+  pub index : indexOk n i (c .line) (c .index) ≡ true
+  pub choosing : choosingOk (c .line) (c .choosing) ≡ true
+  pub token : tokenOk top (c .line) (c .token) ≡ true
+  pub pivot : pivotOk top (c .line) (c .pivot) ≡ true
+
+-- the rules of row i: those of its core, and that of each read cell
 pub record RowRules (top : ℤ) (n i : ℕ) (r : Row) : Type 0 where
-  pub line : lineOk n i (r .line) ≡ true
-  pub index : indexOk n i (r .line) (r .index) ≡ true
-  pub choosing : choosingOk (r .line) (r .choosing) ≡ true
-  pub token : tokenOk top (r .line) (r .token) ≡ true
-  pub pivot : pivotOk top (r .line) (r .pivot) ≡ true
+  pub core : CoreRules top n i (r .core)
   pub cells : (j : ℕ) → 1 ≤ j → j ≤ slots → cellRule top n i r j ≡ true
 
 -- the rules of a table, each by its name
@@ -36,28 +41,32 @@ pub record TableRules (t : Table) : Type 0 where
   pub x : xOk (topOf (t .algorithm) (t .n)) (t .x) ≡ true
   pub rows : (i : ℕ) → 1 ≤ i → i ≤ slots → RowRules (topOf (t .algorithm) (t .n)) (t .n) i (rowOf t i)
 
+core-rules : (top : ℤ) (n i : ℕ) (c : Core) → coreOk top n i c ≡ true → CoreRules top n i c
+unfolding coreOk
+core-rules top n i c e =
+    let h4 = and-halves _ (pivotOk top (c .line) (c .pivot)) e in
+    let h3 = and-halves _ (tokenOk top (c .line) (c .token)) (h4 .0) in
+    let h2 = and-halves _ (choosingOk (c .line) (c .choosing)) (h3 .0) in
+    let h1 = and-halves _ (indexOk n i (c .line) (c .index)) (h2 .0) in
+    record { line = h1 .0; index = h1 .1; choosing = h2 .1; token = h3 .1; pivot = h4 .1 }
+
 row-rules : (top : ℤ) (n i : ℕ) (r : Row) → rowOk top n i r ≡ true → RowRules top n i r
 unfolding rowOk cellsOk
 row-rules top n i r e =
-    let h5 = and-halves _ (cellsOk top n i r) e in
-    let h4 = and-halves _ (pivotOk top (r .line) (r .pivot)) (h5 .0) in
-    let h3 = and-halves _ (tokenOk top (r .line) (r .token)) (h4 .0) in
-    let h2 = and-halves _ (choosingOk (r .line) (r .choosing)) (h3 .0) in
-    let h1 = and-halves _ (indexOk n i (r .line) (r .index)) (h2 .0) in
+    let halves = and-halves (coreOk top n i (r .core)) (cellsOk top n i r) e in
     record {
-      line = h1 .0;
-      index = h1 .1;
-      choosing = h2 .1;
-      token = h3 .1;
-      pivot = h4 .1;
-      cells = λ j l h. every-at (cellRule top n i r) j slots l h (h5 .1);
+      core = core-rules top n i (r .core) (halves .0);
+      cells = λ j l h. every-at (cellRule top n i r) j slots l h (halves .1);
     }
+
+core-ok : (top : ℤ) (n i : ℕ) (c : Core) → CoreRules top n i c → coreOk top n i c ≡ true
+unfolding coreOk
+core-ok top n i c k = and-both (and-both (and-both (and-both (k .line) (k .index)) (k .choosing)) (k .token)) (k .pivot)
 
 row-ok : (top : ℤ) (n i : ℕ) (r : Row) → RowRules top n i r → rowOk top n i r ≡ true
 unfolding rowOk cellsOk
-row-ok top n i r k =
-    and-both (and-both (and-both (and-both (and-both (k .line) (k .index)) (k .choosing)) (k .token)) (k .pivot))
-    (every-all (cellRule top n i r) slots (k .cells))
+row-ok top n i r rules =
+    and-both (core-ok top n i (r .core) (rules .core)) (every-all (cellRule top n i r) slots (rules .cells))
 
 pub table-rules : (t : Table) → wellFormed t ≡ true → TableRules t
 unfolding wellFormed rowsOk rowRule
@@ -114,7 +123,7 @@ token-range limit line v =
     from-zero (negsuc a) e = absurd (false≢true e)
 
 -- no cell of a row at line 1 holds a token
-cells-none : (top : ℤ) (n i : ℕ) (r : Row) → RowRules top n i r → r .line ≡ 1 → length (r .cells) ≡ slots → r .cells ≡ allNone
+cells-none : (top : ℤ) (n i : ℕ) (r : Row) → RowRules top n i r → r .core .line ≡ 1 → length (r .cells) ≡ slots → r .cells ≡ allNone
 unfolding cellRule cellOk mayHold
 cells-none top n i r k e m = ext-getD (pos 0) (r .cells) allNone (m ∙ sym (length-replicate slots none)) (λ j h. each j (omega arith))
   where
@@ -125,33 +134,39 @@ cells-none top n i r k e m = ext-getD (pos 0) (r .cells) allNone (m ∙ sym (len
         (rw off at cell) ∙ sym (getD-replicate slots j none (pos 0) h)
 
 -- a row at line 1 that keeps the rules is a fresh row
-line-one-fresh : (top : ℤ) (n i : ℕ) (r : Row) → RowRules top n i r → r .line ≡ 1 → length (r .cells) ≡ slots → r ≡ freshRow
+line-one-fresh : (top : ℤ) (n i : ℕ) (r : Row) → RowRules top n i r → r .core .line ≡ 1 → length (r .cells) ≡ slots → r ≡ freshRow
 unfolding indexOk choosingOk tokenOk pivotOk
-line-one-fresh top n i r k e m =
-    let index : r .index ≡ 0 = eqb-true _ _ (rw e at (k .index)) in
-    let choosing : r .choosing ≡ 0 = eqb-true _ _ (rw e at (k .choosing)) in
-    let token : r .token ≡ none = is-none _ (rw e at (k .token)) in
-    let pivot : r .pivot ≡ none = is-none _ (rw e at (k .pivot)) in
-    let cells = cells-none top n i r k e m in
-    λ at. record { line = e at; index = index at; choosing = choosing at; token = token at; pivot = pivot at; cells = cells at }
+line-one-fresh top n i r rules e m =
+    let k = rules .core in
+    let index : r .core .index ≡ 0 = eqb-true _ _ (rw e at (k .index)) in
+    let choosing : r .core .choosing ≡ 0 = eqb-true _ _ (rw e at (k .choosing)) in
+    let token : r .core .token ≡ none = is-none _ (rw e at (k .token)) in
+    let pivot : r .core .pivot ≡ none = is-none _ (rw e at (k .pivot)) in
+    let cells = cells-none top n i r rules e m in
+    λ at. record {
+      core = record { line = e at; index = index at; choosing = choosing at; token = token at; pivot = pivot at };
+      cells = cells at;
+    }
 
 -- "rows above n are as in a fresh table"
 pub above-fresh : (t : Table) → wellFormed t ≡ true → Sized t → (i : ℕ) → t .n < i → i ≤ slots → rowOf t i ≡ freshRow
 unfolding lineOk
 above-fresh t e z i l h =
     let k = table-rules t e .rows i (omega arith) h in
-    line-one-fresh _ _ i _ k (eqb-true _ _ (rw (lt-leb i (t .n) l) at (k .line))) (z .cells i (omega arith) h)
+    line-one-fresh _ _ i _ k (eqb-true _ _ (rw (lt-leb i (t .n) l) at (k .core .line))) (z .cells i (omega arith) h)
 
 -- a fresh row keeps every rule, and so does a fresh table
 pub fresh-row-rules : (top : ℤ) (n i : ℕ) → RowRules top n i freshRow
 unfolding lineOk indexOk choosingOk tokenOk pivotOk cellRule cellOk mayHold
 fresh-row-rules top n i =
     record {
-      line = by-test (λ (ok : Bool). ok ≡ true) (leb i n) (λ _. refl) (λ _. refl);
-      index = refl;
-      choosing = refl;
-      token = refl;
-      pivot = refl;
+      core = record {
+        line = by-test (λ (ok : Bool). ok ≡ true) (leb i n) (λ _. refl) (λ _. refl);
+        index = refl;
+        choosing = refl;
+        token = refl;
+        pivot = refl;
+      };
       cells = λ j l h. ap isNone (getD-replicate slots (j - 1) none (pos 0) (omega arith));
     }
 

@@ -7,17 +7,21 @@ use lib.ListN.{replicate}
 use Rattle.fields.specs.Numbers.{slots, none, unbounded}
 use Rattle.fields.specs.Refusals.{noRefusal, badAlgorithm, badProcessCount}
 use Rattle.fields.specs.Rules.{algorithmOk, countOk}
+use Rattle.table.specs.declared.Core.{Core}
 use Rattle.table.specs.declared.Row.{Row}
 use Rattle.table.specs.declared.Table.{Table}
 use Rattle.table.specs.declared.Started.{Started}
 
--- read cells that have seen nothing
+-- "every row at line 1, index 0, choosing 0, token -1, pivot -1"
+abbrev pub freshCore : Core
+freshCore = record { line = 1; index = 0; choosing = 0; token = none; pivot = none }
+
+-- "cells -1": read cells that have seen nothing
 abbrev pub allNone : List ℤ
 allNone = replicate slots none
 
--- "every row at line 1, index 0, choosing 0, token -1, pivot -1, cells -1"
 abbrev pub freshRow : Row
-freshRow = record { line = 1; index = 0; choosing = 0; token = none; pivot = none; cells = allNone }
+freshRow = record { core = freshCore; cells = allNone }
 
 -- "A fresh table has X = 0" and every row fresh
 abbrev pub freshTable : ℕ → ℕ → Table

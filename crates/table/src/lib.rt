@@ -6,20 +6,24 @@ pub use rules::token_of;
 pub use rules::well_formed;
 pub use rules::x_of;
 ghost use mathlib.Core.Path.{_≡_};
-ghost use Prim.Native.Nat.{_-_};
 ghost use Rattle.table.specs.Fresh.{freshTable, refusedFresh, freshOf};
 use fields::NONE;
 use fields::SLOTS;
 use fields::UNBOUNDED;
 use fields::refusal;
 
-// "A row has a line, an index, a choosing flag, a token, a pivot, and sixteen read cells."
-pub struct Row {
+// The core of a row, all but what it keeps of the tokens that it saw: "a line, an index, a choosing flag, a token, a pivot".
+pub struct Core {
     pub line: u8,
     pub index: u8,
     pub choosing: u8,
     pub token: i32,
     pub pivot: i32,
+}
+
+// A row is its core "and sixteen read cells."
+pub struct Row {
+    pub core: Core,
     pub cells: [i32; SLOTS],
 }
 
@@ -37,25 +41,18 @@ pub struct Started {
     pub stop: u8,
 }
 
-// The place of a process's row or read cell: process numbers start at 1.
-pub fn place_of(process: u8) -> usize
-    ensures { λ k. ⌜ k ≡ process - 1 ⌝ }
-{
-    if process < 1 {
-        return 0;
-    }
-    (process - 1) as usize
-}
-
 fn fresh_table(algorithm: u8, n: u8) -> Table
     ensures { λ t. ⌜ t ≡ freshTable algorithm n ⌝ }
 {
-    let row = Row {
+    let core = Core {
         line: 1,
         index: 0,
         choosing: 0,
         token: NONE,
         pivot: NONE,
+    };
+    let row = Row {
+        core,
         cells: [NONE; SLOTS],
     };
     Table {

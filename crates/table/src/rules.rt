@@ -4,29 +4,30 @@ ghost use Prim.Native.Nat.{_+_, _<_};
 ghost use lib.IntN.{pos};
 ghost use lib.ListN.{getD};
 ghost use Rattle.fields.specs.Numbers.{slots};
-ghost use Rattle.table.specs.WellFormed.{cellRule, cellsOk, rowOk, rowRule, rowsOk, wellFormed};
+ghost use Rattle.table.specs.WellFormed.{cellRule, cellsOk, coreOk, rowOk, rowRule, rowsOk, wellFormed};
+use crate::Core;
 use crate::Row;
 use crate::Table;
 use fields::SLOTS;
 use fields::Value;
 
-// X of a table, and the token of a row and its pivot.
+// X of a table, and the token of a core and its pivot.
 pub fn x_of(t: Table) -> Value
     ensures { λ v. ⌜ v .0 ≡ t .x ⌝ }
 {
     Value(t.x)
 }
 
-pub fn token_of(r: Row) -> Value
-    ensures { λ v. ⌜ v .0 ≡ r .token ⌝ }
+pub fn token_of(c: Core) -> Value
+    ensures { λ v. ⌜ v .0 ≡ c .token ⌝ }
 {
-    Value(r.token)
+    Value(c.token)
 }
 
-pub fn pivot_of(r: Row) -> Value
-    ensures { λ v. ⌜ v .0 ≡ r .pivot ⌝ }
+pub fn pivot_of(c: Core) -> Value
+    ensures { λ v. ⌜ v .0 ≡ c .pivot ⌝ }
 {
-    Value(r.pivot)
+    Value(c.pivot)
 }
 
 // The read cell at place k, that of process k + 1.
@@ -41,7 +42,7 @@ fn cell_at_ok(top: Value, n: u8, i: u8, r: Row, k: usize) -> bool
     requires { ⌜ k < slots ⌝ }
     ensures { λ b. ⌜ b ≡ cellRule (top .0) n i r (k + 1) ⌝ }
 {
-    let may = fields::may_hold(n, i, r.line, r.index, (k as u8) + 1);
+    let may = fields::may_hold(n, i, r.core.line, r.core.index, (k as u8) + 1);
     fields::cell_ok(top, may, cell_at(r, k))
 }
 
@@ -56,15 +57,20 @@ fn cells_ok(top: Value, n: u8, i: u8, r: Row) -> bool
     true
 }
 
+fn core_ok(top: Value, n: u8, i: u8, c: Core) -> bool
+    ensures { λ b. ⌜ b ≡ coreOk (top .0) n i c ⌝ }
+{
+    fields::line_ok(n, i, c.line)
+        & fields::index_ok(n, i, c.line, c.index)
+        & fields::choosing_ok(c.line, c.choosing)
+        & fields::token_ok(top, c.line, token_of(c))
+        & fields::pivot_ok(top, c.line, pivot_of(c))
+}
+
 fn row_ok(top: Value, n: u8, i: u8, r: Row) -> bool
     ensures { λ b. ⌜ b ≡ rowOk (top .0) n i r ⌝ }
 {
-    fields::line_ok(n, i, r.line)
-        & fields::index_ok(n, i, r.line, r.index)
-        & fields::choosing_ok(r.line, r.choosing)
-        & fields::token_ok(top, r.line, token_of(r))
-        & fields::pivot_ok(top, r.line, pivot_of(r))
-        & cells_ok(top, n, i, r)
+    core_ok(top, n, i, r.core) & cells_ok(top, n, i, r)
 }
 
 // The rules of the row at place k, that of process k + 1.

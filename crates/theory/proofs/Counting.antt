@@ -3,9 +3,9 @@ use Prim.Native.Nat.{ℕ, zero, suc, _+_, _-_, _≤_, _<_, max}
 use mathlib.Core.Path.{_≡_, refl}
 use mathlib.Core.Bool.{cond}
 use native.Mathlib.Omega.{arith}
-use borrow.Author.Tests.{leb-true, leb-false, lt-ltb, le-ltb, eqb-true, eqb-false}
-use lib.Dec.{leb, ltb, eqb}
-use Rattle.laws.proofs.Tests.{by-test, up-to-next}
+use borrow.Author.Tests.{lt-ltb, le-ltb}
+use lib.Dec.{ltb}
+use Rattle.laws.proofs.Tests.{by-test, by-order, up-to-next}
 
 -- i is one of the processes 1 to n
 pub record Process (n i : ℕ) : Type 0 where
@@ -22,14 +22,6 @@ last n = record { low = omega arith; high = omega arith }
 -- what holds of each of the first n, and of the last, holds of each
 and-last : (n : ℕ) (P : ℕ → Type 0) → ((i : ℕ) → Process n i → P i) → P (suc n) → (i : ℕ) → Process (suc n) i → P i
 and-last n P before one i p = up-to-next P n (λ k low high. before k (record { low = low; high = high })) one i (p .low) (p .high)
-
--- a number is at most another, or above it
-pub by-order : {P : Type 0} (a b : ℕ) → (a ≤ b → P) → (b < a → P) → P
-by-order {P} a b f g = by-test (λ (_ : ℕ). P) (leb a b) {x = 0} {y = 0} (λ t. f (leb-true a b t)) (λ t. g (leb-false a b t))
-
--- a number is another, or it is not
-pub by-equality : {P : Type 0} (a b : ℕ) → (a ≡ b → P) → (¬ (a ≡ b) → P) → P
-by-equality {P} a b f g = by-test (λ (_ : ℕ). P) (eqb a b) {x = 0} {y = 0} (λ t. f (eqb-true a b t)) (λ t. g (eqb-false a b t))
 
 -- a number is below another, or equal to it, or above it
 pub by-comparison : {P : Type 0} (a b : ℕ) → (a < b → P) → (a ≡ b → P) → (b < a → P) → P

@@ -5,8 +5,8 @@ use mathlib.Core.Bool.{Bool, true, false, _||_, _&&_}
 use native.Mathlib.Omega.{arith}
 use borrow.Author.Tests.{eqb-true, eqb-false, leb-true, leb-false, ltb-true, not-true}
 use lib.Dec.{eqb, leb, ltb}
-use Rattle.laws.proofs.Tests.{by-test, and-halves}
-use Rattle.theory.proofs.Counting.{Process, by-order, by-equality, below, below-one, below-zero, below-most, below-either}
+use Rattle.laws.proofs.Tests.{by-order, by-equality, by-test, and-halves}
+use Rattle.theory.proofs.Counting.{Process, below, below-one, below-zero, below-most, below-either}
 use Rattle.theory.proofs.Counting.{sum-less, sum-but-one, at-most-largest, Reaches, largest-reached, Has, pigeonhole-but-one}
 use Rattle.theory.proofs.Tokens.{Token, none, IsHeld, nextUnbounded, beforeUnbounded, unboundedMachine}
 use Rattle.theory.proofs.Model.{Place, at1, at2, at3, at4, at5, at6, at7, at8, at9, at10, Row, State, isChoosing, set, goes}

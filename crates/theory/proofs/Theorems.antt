@@ -3,7 +3,8 @@ use Prim.Native.Nat.{ℕ, suc, _+_, _≤_}
 use mathlib.Core.Path.{_≡_, sym}
 use mathlib.Core.Bool.{Bool, true, false, false≢true}
 use native.Mathlib.Omega.{arith}
-use Rattle.theory.proofs.Counting.{Process, by-equality, below-either, pigeonhole, pigeonhole-but-one}
+use Rattle.laws.proofs.Tests.{by-equality}
+use Rattle.theory.proofs.Counting.{Process, below-either, pigeonhole, pigeonhole-but-one}
 use Rattle.theory.proofs.Tokens.{Token, held, IsHeld}
 use Rattle.theory.proofs.Remainders.{Near}
 use Rattle.theory.proofs.Model.{Place, at1, at2, at3, at4, at5, at6, at7, at8, at9, at10, State}

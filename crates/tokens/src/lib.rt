@@ -50,8 +50,8 @@ fn after_largest(most: UbToken) -> Next
     given(UbToken::of_next(next).value())
 }
 
-// The next token of a machine, with this pivot and these read cells: refusals 2, then 5. The cells come by value: with
-// a reference it would have to ask that they are sixteen, and a public call asks nothing. From here on they are lent.
+// The next token of a machine, with this pivot and these read cells: refusals 2, then 5. The cells come by value: given a reference, the call
+// would have to ask that there are sixteen, and a public call asks nothing. From here on they are lent.
 pub fn next_token(algorithm: u8, n: u8, pivot: Value, cells: [i32; SLOTS]) -> Next
     ensures { λ v. ⌜ v ≡ nextOf algorithm n (pivot .0) cells ⌝ }
 {

@@ -4,8 +4,8 @@ use mathlib.Core.Path.{_≡_}
 use mathlib.Core.List.{List}
 use lib.ListN.{length, take, drop, length-drop}
 use lib.Seq.{sets, take-all}
-use Rattle.table.proofs.WellFormed.{freshOf-well-formed}
 use Rattle.laws.specs.Lent.{Written}
+use Rattle.table.proofs.WellFormed.{freshOf-well-formed}
 use Rattle.listing.specs.Listing.{scheduleIn}
 use Rattle.listing.specs.Room.{room}
 use Rattle.listing.proofs.Listings.{listing-short, listing-not-fresh, listing-long, listing-run}

@@ -4,12 +4,12 @@ use mathlib.Core.Path.{_≡_, sym, ap, _∙_}
 use mathlib.Core.List.{List}
 use lib.ListN.{length, take, drop, replicate, length-append, length-replicate}
 use lib.Seq.{take-at}
+use Rattle.laws.specs.Lent.{inFront}
+use Rattle.laws.proofs.Writes.{and-then}
 use Rattle.fields.specs.Numbers.{scheduleLimit}
 use Rattle.fields.specs.Refusals.{noRefusal}
 use Rattle.table.specs.declared.Table.{Table}
 use Rattle.table.proofs.WellFormed.{table-rules}
-use Rattle.laws.specs.Lent.{inFront}
-use Rattle.laws.proofs.Writes.{and-then}
 use Rattle.courses.specs.Course.{Course}
 use Rattle.courses.proofs.Counts.{processes-count}
 use Rattle.machine.specs.Run.{courseOf, isEntry, enteredIn, entriesIn, answerOf, runRefusal}

@@ -1,6 +1,6 @@
 -- `fresh` meets its contract: each `return` is the case of `freshOf` that the tests before it lead to.
-use Rattle.table.specs.Fresh.{freshOf}
 use Rattle.laws.proofs.Tests.{passed, failed}
+use Rattle.table.specs.Fresh.{freshOf}
 use borrow.Author.Needs.{needs}
 use Rattle.table.proofs.fresh.Statement.{statement}
 use Rattle.table.proofs.fresh.Tie as tie

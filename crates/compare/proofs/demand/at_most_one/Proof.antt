@@ -1,9 +1,9 @@
 -- `at_most_one` meets its contract. The loop's invariant: the count is that of the rows passed.
 use Prim.Native.Nat.{_≤_, _-_}
 use mathlib.Core.Path.{_≡_, refl}
-use Rattle.fields.specs.Numbers.{slots}
 use Rattle.laws.specs.Tests.{howMany}
 use Rattle.laws.proofs.Tests.{many-more}
+use Rattle.fields.specs.Numbers.{slots}
 use Rattle.demands.specs.Agreement.{isCritical, atMostOne}
 use borrow.Author.Needs.{needs}
 use native.Mathlib.Omega.{arith}

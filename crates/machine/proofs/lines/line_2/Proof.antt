@@ -5,15 +5,12 @@ use borrow.Author.Needs.{needs}
 use Rattle.machine.proofs.lines.line_2.Statement.{statement}
 use Rattle.machine.proofs.lines.line_2.Tie as tie
 
-with-cell-requires : tie.Need-with-cell-requires
-with-cell-requires c κs = search needs
-
 moved-requires : tie.Need-moved-requires
 moved-requires c κs = search needs
 
 returns : tie.Need-returns
 unfolding line2
-returns c = rw (eq-eqb _ _ (c .before .if1 .taken), c .moved .ensures, c .before .before .with-cell .ensures)
+returns c = rw (eq-eqb _ _ (c .before .if1 .taken), c .moved .ensures)
 
 add-w : tie.Need-add-w
 add-w c = search needs
@@ -23,8 +20,7 @@ moved-requires-2 c κs = search needs
 
 returns-2 : tie.Need-returns-2
 unfolding line2
-returns-2 c = rw (ne-eqb _ _ (c .before .if1 .left), c .moved2 .ensures, c .before .before .with-cell .ensures)
+returns-2 c = rw (ne-eqb _ _ (c .before .if1 .left), c .moved2 .ensures)
 
 pub line-2-spec : {M : Type 1} → statement M
-line-2-spec =
-    tie.close (tie.spec with-cell-requires moved-requires returns add-w moved-requires-2 returns-2)
+line-2-spec = tie.close (tie.spec moved-requires returns add-w moved-requires-2 returns-2)

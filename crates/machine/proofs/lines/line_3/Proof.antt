@@ -17,7 +17,7 @@ returns : tie.Need-returns
 returns c =
     let a = c .before .before .args in
     let f : SFits w32 (a .s .x) = search needs in
-    subst (λ (x : ℤ). c .moved .result ≡ moves (a .s .x) (withLine 4 (withPivot x (a .r)))) (toZ-ofZ f) (c .moved .ensures)
+    subst (λ (x : ℤ). c .moved .result ≡ moves (a .s .x) (withLine 4 (withPivot x (a .c)))) (toZ-ofZ f) (c .moved .ensures)
 
 pub line-3-spec : {M : Type 1} → statement M
 line-3-spec = tie.close (tie.spec moved-requires returns)

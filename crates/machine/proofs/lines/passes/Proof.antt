@@ -36,7 +36,7 @@ returns-2 c =
       c .goes-before .ensures,
       c .before .token-seen2 .ensures,
       c .before .before .token-of .ensures,
-      before-counted (a .algorithm) (a .n) (a .i) (a .r .token) (a .r .index) (a .s .token) (b .before .before .pre),
+      before-counted (a .algorithm) (a .n) (a .i) (a .c .token) (a .c .index) (a .s .token) (b .before .before .pre),
     )
 
 pub passes-spec : {M : Type 1} → statement M

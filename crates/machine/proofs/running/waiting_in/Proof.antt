@@ -1,9 +1,9 @@
 -- `waiting_in` meets its contract. The loop's invariant: the rows passed that wait are counted.
 use Prim.Native.Nat.{_+_, _-_, _≤_}
 use mathlib.Core.Path.{_≡_, refl}
-use Rattle.fields.specs.Numbers.{slots}
 use Rattle.laws.specs.Tests.{howMany}
 use Rattle.laws.proofs.Tests.{many-more}
+use Rattle.fields.specs.Numbers.{slots}
 use Rattle.machine.specs.Run.{isWaiting}
 use borrow.Author.Needs.{needs}
 use native.Mathlib.Omega.{arith}

@@ -5,8 +5,8 @@ use mathlib.Core.List.{List, _++_}
 use native.Mathlib.Omega.{arith}
 use borrow.Author.Tests.{le-leb, lt-leb, leb-true}
 use lib.ListN.{length}
-use Rattle.fields.specs.Numbers.{slots}
 use Rattle.laws.proofs.Tests.{within-high}
+use Rattle.fields.specs.Numbers.{slots}
 use Rattle.stored.specs.Form.{headLength, formLength}
 use Rattle.stored.specs.Fields.{countIn}
 use Rattle.stored.specs.Reading.{firstFault, startChecks, headChecks, lengthChecks, checksOf}

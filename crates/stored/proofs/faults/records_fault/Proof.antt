@@ -5,9 +5,9 @@ use mathlib.Core.Bool.{true, false}
 use mathlib.Core.List.{List}
 use native.Mathlib.Omega.{arith}
 use borrow.Author.Needs.{needs}
-use Rattle.fields.specs.Numbers.{slots}
-use Rattle.laws.proofs.Tests.{passed, failed}
 use Rattle.laws.specs.InTurn.{inTurn}
+use Rattle.laws.proofs.Tests.{passed, failed}
+use Rattle.fields.specs.Numbers.{slots}
 use Rattle.stored.specs.Form.{cellsKind}
 use Rattle.stored.specs.Fields.{cellsPlace, cellPlace, countIn}
 use Rattle.stored.specs.Reading.{firstFault, openingChecks, rowChecks, cellKeeps, cellCheck, cellsChecks, recordsChecks}

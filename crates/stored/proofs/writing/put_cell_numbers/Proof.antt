@@ -8,12 +8,12 @@ use native.Mathlib.Omega.{arith}
 use mir.Syntax.{w32}
 use mir.Val.{SFits}
 use mir.Facts.{toZ-ofZ}
-use Rattle.fields.specs.Numbers.{slots}
 use Rattle.laws.specs.Lent.{Written}
-use Rattle.laws.proofs.Writes.{and-then, same-size}
-use Rattle.stored.specs.FourBytes.{fourBytes}
 use Rattle.laws.specs.InTurn.{inTurn}
+use Rattle.laws.proofs.Writes.{and-then, same-size}
 use Rattle.laws.proofs.InTurn.{turn-more, turn-length}
+use Rattle.fields.specs.Numbers.{slots}
+use Rattle.stored.specs.FourBytes.{fourBytes}
 use Rattle.stored.proofs.Lengths.{four-length}
 use borrow.Author.Needs.{needs}
 use Rattle.stored.proofs.writing.put_cell_numbers.Statement.{statement}

@@ -3,10 +3,10 @@ use Prim.Native.Nat.{_+_, _-_, _≤_}
 use mathlib.Core.Path.{_≡_, refl}
 use native.Mathlib.Omega.{arith}
 use Rattle.laws.specs.Lent.{Written}
-use Rattle.laws.proofs.Writes.{and-then, same-size}
 use Rattle.laws.specs.InTurn.{inTurn}
-use Rattle.stored.specs.Form.{recordsOf, encode, rowLength, cellsLength}
+use Rattle.laws.proofs.Writes.{and-then, same-size}
 use Rattle.laws.proofs.InTurn.{turn-more, turn-length}
+use Rattle.stored.specs.Form.{recordsOf, encode, rowLength, cellsLength}
 use Rattle.stored.proofs.Lengths.{head-length, records-length}
 use borrow.Author.Needs.{needs}
 use Rattle.stored.proofs.writing.put_form.Statement.{statement}

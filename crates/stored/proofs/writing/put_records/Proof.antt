@@ -3,8 +3,8 @@ use Prim.Native.Nat.{_+_, _-_}
 use mathlib.Core.Path.{_≡_}
 use native.Mathlib.Omega.{arith}
 use lib.ListN.{getD}
-use Rattle.table.specs.WellFormed.{noRow}
 use Rattle.laws.proofs.Writes.{and-then, same-size}
+use Rattle.table.specs.WellFormed.{noRow}
 use Rattle.stored.specs.Form.{recordsOf}
 use Rattle.stored.proofs.Lengths.{row-length}
 use borrow.Author.Needs.{needs}
@@ -31,7 +31,7 @@ put-cells-requires c κs =
     let row = c .before .before .before in
     let b = row .before .before .before .before in
     let w = row .put-row .ensures in
-    omega (arith, w .place, same-size w, b .pre .1, row-length (b .args .k + 1) (getD (b .args .t3 .rows) (b .args .k) noRow))
+    omega (arith, w .place, same-size w, b .pre .1, row-length (b .args .k + 1) (getD (b .args .t3 .rows) (b .args .k) noRow .core))
 
 same-length : tie.Need-same-length
 same-length c = search needs
