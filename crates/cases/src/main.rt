@@ -1,5 +1,7 @@
 // Runs the cases of the data files that its arguments name, and prints under each case's name what the library answers.
 // What it must print comes from a second machine, tests/bakery.py; tests/write_cases.py has the format of the files.
+#![tactic(auto)]
+
 mod answers;
 mod forms;
 mod lent;

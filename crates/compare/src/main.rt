@@ -1,5 +1,7 @@
 // Gives pseudo-random schedules to the two machines, fresh and side by side, for every process count, and checks demand 3 after every byte.
 // It prints a line of totals for each n and one for all. A number of disagreements other than 0 is a fault.
+#![tactic(auto)]
+
 mod demand;
 mod pair;
 mod schedule;

@@ -8,14 +8,14 @@ use machine::Stepped;
 use table::Table;
 
 // A table of each machine.
-#[derive(Drop)]
+#[derive(Clone, Copy)]
 pub(crate) struct Pair {
     unbounded: Table,
     bounded: Table,
 }
 
 // The pair after a byte, and what came of the byte.
-#[derive(Drop)]
+#[derive(Clone, Copy)]
 pub(crate) struct Given {
     pub(crate) pair: Pair,
     pub(crate) event: Event,

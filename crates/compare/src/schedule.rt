@@ -3,7 +3,7 @@ ghost use Rattle.std.specs.Prelude.{◌≤◌, ◌<◌};
 ghost use Rattle.fields.specs.Numbers.{slots};
 
 // Where a schedule stands: the byte to give now, how many times more it is to be given, and what the rest is drawn from.
-#[derive(Drop)]
+#[derive(Clone, Copy)]
 pub(crate) struct Schedule {
     pub(crate) byte: u8,
     left: u32,

@@ -5,7 +5,7 @@ ghost use Rattle.compare.specs.Tally.{Sound};
 use fields::refusal;
 
 // What came of one byte: the unbounded machine's mark and stop number, whether it was an entry, and whether the machines agree after it.
-#[derive(Drop)]
+#[derive(Clone, Copy)]
 pub(crate) struct Event {
     pub(crate) mark: u8,
     pub(crate) stop: u8,
@@ -21,7 +21,7 @@ impl Event {
 }
 
 // Bytes given and, among them, entries, waits, refused bytes, and bytes after which the machines did not agree.
-#[derive(Drop)]
+#[derive(Clone, Copy)]
 pub(crate) struct Tally {
     pub(crate) bytes: u64,
     pub(crate) entries: u64,

@@ -1,5 +1,7 @@
 // How the library is called: two controllers on the bounded machine. A schedule is run, its entries are printed, and the table is kept as
 // bytes until the next run.
+#![tactic(auto)]
+
 ghost use Rattle.std.specs.Prelude.{◌≡◌};
 ghost use Rattle.machine.specs.Run.{run_of};
 

@@ -1,4 +1,6 @@
 // The entry lister: standard input is an algorithm byte, an n byte and a schedule; standard output is the list of entries.
+#![tactic(auto)]
+
 use libc::{STDIN_FILENO, STDOUT_FILENO};
 
 // The buffer holds 65,536 bytes. Of a longer input its front is enough: with more than 60,000 bytes of schedule the lister refuses it all.

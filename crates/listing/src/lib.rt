@@ -1,4 +1,6 @@
 // The entry lister of document 01 as a function: the bytes of its standard input to the bytes of its text.
+#![tactic(auto)]
+
 mod text;
 
 ghost use Rattle.std.specs.Prelude.{◌≡◌, true, ◌+◌, ◌≤◌, length};

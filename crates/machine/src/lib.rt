@@ -1,4 +1,6 @@
 // The two machines of document 01, the unbounded (UB-Bakery) and the bounded (B-Bakery): one step of a table, and a run over a schedule.
+#![tactic(auto)]
+
 mod lines;
 mod rows;
 mod running;
@@ -9,7 +11,7 @@ pub use stepping::step;
 use table::{Core, Table};
 
 // What a step sees outside its own row: of the process at its index the choosing flag and the token, and X.
-#[derive(Drop)]
+#[derive(Clone, Copy)]
 pub(crate) struct Seen {
     pub(crate) choosing: u8,
     pub(crate) token: i32,
@@ -17,7 +19,7 @@ pub(crate) struct Seen {
 }
 
 // What comes of a line: the core of the row, X, the mark and the stop number.
-#[derive(Drop)]
+#[derive(Clone, Copy)]
 pub(crate) struct Went {
     pub(crate) core: Core,
     pub(crate) x: i32,
@@ -26,7 +28,7 @@ pub(crate) struct Went {
 }
 
 // The answer of `step`.
-#[derive(Drop)]
+#[derive(Clone, Copy)]
 pub struct Stepped {
     pub table: Table,
     pub mark: u8,
@@ -34,7 +36,7 @@ pub struct Stepped {
 }
 
 // The answer of `run`.
-#[derive(Drop)]
+#[derive(Clone, Copy)]
 pub struct Ran {
     pub table: Table,
     pub moved: usize,

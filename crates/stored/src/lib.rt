@@ -1,5 +1,7 @@
 // The stored form of document 01: its records, a table written to bytes, and a table read back from them, or the first fault of bytes that
 // are no form.
+#![tactic(auto)]
+
 mod bytes;
 mod faults;
 mod places;
@@ -42,14 +44,14 @@ const TOKEN_PLACE: usize = 5;
 const PIVOT_PLACE: usize = 9;
 
 // The answer of `write`.
-#[derive(Drop)]
+#[derive(Clone, Copy)]
 pub struct Wrote {
     pub length: usize,
     pub stop: u8,
 }
 
 // The answer of `read`.
-#[derive(Drop)]
+#[derive(Clone, Copy)]
 pub struct Restored {
     pub table: Table,
     pub stop: u8,
@@ -57,7 +59,7 @@ pub struct Restored {
 }
 
 // What can be at fault in a form: its length, a kind byte, or a field.
-#[derive(Drop)]
+#[derive(Clone, Copy)]
 enum Fault {
     TooShort,
     TooLong,
@@ -73,7 +75,7 @@ enum Fault {
 }
 
 // What a search for a fault comes to: the first fault and its place, or nothing.
-#[derive(Drop)]
+#[derive(Clone, Copy)]
 enum Search {
     Found(Fault, usize),
     Nothing,

@@ -18,27 +18,25 @@ use Rattle.table.specs.Sized.{Sized}
 use Rattle.table.specs.declared.Row.{Row}
 use Rattle.table.specs.declared.Table.{Table}
 use Rattle.table.specs.contracts.Row as row_type
-use Rattle.table.specs.contracts.Table as table-type
+use Rattle.table.specs.contracts.Table as table_type
 
 -- what owning an element says holds of each element of a list that is owned
-module _ {D X : Type 0} (own : D → List Val → Fml) (into : X → D) (P : X → Type 0)
-    (one : (x : X) (vs : List Val) → shadow (own (into x) vs) → P x) where
-  each_at : (xs : List X) (us : List Val) → shadow (each D own (map into xs) us) → (i : ℕ) (d : X) → i < length xs → P (get_or xs i d)
+module _ {X : Type 0} (own : X → List Val → Fml) (P : X → Type 0) (one : (x : X) (vs : List Val) → shadow (own x vs) → P x) where
+  each_at : (xs : List X) (us : List Val) → shadow (each X own xs us) → (i : ℕ) (d : X) → i < length xs → P (get_or xs i d)
   each_at [] us s i d h = absurd (not-suc-le-zero h)
   each_at (x ∷ xs) [] s i d h = absurd s
   each_at (x ∷ xs) (u ∷ us) s zero d h = one x (u ∷ []) s.0
   each_at (x ∷ xs) (u ∷ us) s (suc i) d h = each_at xs us s.1 i d (le_of_suc-le-suc h)
 
-row_sized : (r : Row) (vs : List Val) → shadow ((row_type.the_field).row.own_val ((row_type.the_field).into r) vs)
-    → length r.cells ≡ slots
-row_sized r vs s = length_unmapped _ r.cells slots s.1.1.1.0.1.0.1
+row_sized : (r : Row) (vs : List Val) → shadow ((row_type.the_row).own_val r vs) → length r.cells ≡ slots
+row_sized r vs s = s.1.1.1.0.1.0.1
 
-pub held_sized : (t : Table) (vs : List Val) → shadow ((declared.row table-type.the_type).own t vs) → Sized t
+pub held_sized : (t : Table) (vs : List Val) → shadow ((table_type.the_row).own_val t vs) → Sized t
 held_sized t vs s =
     let rows = s.1.1.1.1.1.0 in
-    let count = sym (length-map t.rows (row_type.the_field).into) ∙ rows.1.0.1 in
+    let count : length t.rows ≡ slots = rows.1.0.1 in
     record {
       rows = count;
-      cells = λ i l h. each_at _ (row_type.the_field).into (λ (r : Row). length r.cells ≡ slots) row_sized
+      cells = λ i l h. each_at (row_type.the_row).own_val (λ (r : Row). length r.cells ≡ slots) row_sized
           t.rows rows.0 rows.1.1 (i - 1) no_row (omega arith);
     }

@@ -1,4 +1,6 @@
 // The table of document 01: its rows, when it is well formed, and the fresh table.
+#![tactic(auto)]
+
 mod rules;
 
 ghost use Rattle.std.specs.Prelude.{◌≡◌};
@@ -8,7 +10,7 @@ use fields::{NONE, SLOTS, UNBOUNDED, refusal};
 pub use rules::{pivot_of, token_of, well_formed, x_of};
 
 // The core of a row, all but what it keeps of the tokens that it saw: "a line, an index, a choosing flag, a token, a pivot".
-#[derive(Drop)]
+#[derive(Clone, Copy)]
 pub struct Core {
     pub line: u8,
     pub index: u8,
@@ -18,14 +20,14 @@ pub struct Core {
 }
 
 // A row is its core "and sixteen read cells."
-#[derive(Drop)]
+#[derive(Clone, Copy)]
 pub struct Row {
     pub core: Core,
     pub cells: [i32; SLOTS],
 }
 
 // "Algorithm, n, X, and sixteen rows."
-#[derive(Drop)]
+#[derive(Clone, Copy)]
 pub struct Table {
     pub algorithm: u8,
     pub n: u8,
@@ -34,7 +36,7 @@ pub struct Table {
 }
 
 // The answer of `fresh`.
-#[derive(Drop)]
+#[derive(Clone, Copy)]
 pub struct Started {
     pub table: Table,
     pub stop: u8,

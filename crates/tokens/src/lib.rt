@@ -1,4 +1,6 @@
 // Tokens of the two machines: the next one, and who goes before.
+#![tactic(auto)]
+
 mod numbers;
 mod tokens;
 
@@ -12,7 +14,7 @@ use fields::{NONE, SLOTS, UNBOUNDED, Value, refusal};
 use tokens::{BToken, UbToken};
 
 // The answer of `next_token`: none where the stop number is not 0.
-#[derive(Drop)]
+#[derive(Clone, Copy)]
 pub struct Next {
     pub token: i32,
     pub stop: u8,

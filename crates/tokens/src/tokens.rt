@@ -12,10 +12,10 @@ use fields::{NONE, SLOTS, TOKEN_LIMIT, Value};
 
 // A token of UB-Bakery, and a token of B-Bakery, which is one modulo 2n - 1. Source 002 takes the one to the other by its mapping f; here
 // no function takes one of each.
-#[derive(Drop)]
+#[derive(Clone, Copy)]
 pub(crate) struct UbToken(i32);
 
-#[derive(Drop)]
+#[derive(Clone, Copy)]
 pub(crate) struct BToken(i32);
 
 impl UbToken {
