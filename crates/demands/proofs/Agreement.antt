@@ -114,7 +114,7 @@ module _ {top : ℤ} {n i : ℕ} {c : Core} (rules : CoreRules top n i c) where
   critical_shown = critical_place c.index c.line range
 
 -- two rows that keep their rules, where the view of the second is the remainders of the first's
-module _ {others i n₁ n₂ : ℕ} {top₁ top₂ : ℤ} {u b : Row} (rules-u : RowRules top₁ n₁ i u) (rules-b : RowRules top₂ n₂ i b)
+module _ (others : ℕ) {i n₁ n₂ : ℕ} {top₁ top₂ : ℤ} {u b : Row} (rules-u : RowRules top₁ n₁ i u) (rules-b : RowRules top₂ n₂ i b)
     (viewed : row_view b ≡ row_reduced others (row_view u)) where
   -- they agree in line, index and choosing flag
   same_line : b.core.line ≡ u.core.line
@@ -172,13 +172,13 @@ module _ (n : ℕ) (u b : Table) {algorithm₁ algorithm₂ : ℕ} (for-u : Tabl
   -- row i of both is at the same line
   pub line_view : (i : ℕ) → 1 ≤ i → i ≤ slots → (row_of b i).core.line ≡ (row_of u i).core.line
   line_view i low high =
-      same_line ((table_rules u for-u.formed).rows i low high) ((table_rules b for-b.formed).rows i low high) (row_viewed i low high)
+      same_line (n - 1) ((table_rules u for-u.formed).rows i low high) ((table_rules b for-b.formed).rows i low high) (row_viewed i low high)
 
   -- row i of both agrees
   row_at_agrees_lem : (i : ℕ) → 1 ≤ i → i ≤ slots → row_at_agrees (modulus (n - 1)) u b i ≡ true
   unfolding row_at_agrees
   row_at_agrees_lem i low high =
-      row_agrees_lem ((table_rules u for-u.formed).rows i low high) ((table_rules b for-b.formed).rows i low high) (row_viewed i low high)
+      row_agrees_lem (n - 1) ((table_rules u for-u.formed).rows i low high) ((table_rules b for-b.formed).rows i low high) (row_viewed i low high)
       (for-u.sized.cells i low high) (for-b.sized.cells i low high)
 
   -- X of the second is the remainder of the first's

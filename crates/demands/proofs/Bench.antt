@@ -134,17 +134,17 @@ lower_first = (
 abbrev zero_held : Table
 zero_held = pair bounded (pos 2) (row 6 2 (pos 0)) (row 7 1 (pos 1))
 
-zero_held : ran (fresh_table bounded 2) (replicate 28 1 ++ replicate 8 2)
+zero_held_lem : ran (fresh_table bounded 2) (replicate 28 1 ++ replicate 8 2)
     ≡ record { table = zero_held; moved = 35; waited = 1; entries = 2; waiting = 2; place = 36; stop = no_refusal }
 unfolding plainly
-zero_held = fresh_run bounded 2 (replicate 28 1 ++ replicate 8 2) refl refl refl refl
+zero_held_lem = fresh_run bounded 2 (replicate 28 1 ++ replicate 8 2) refl refl refl refl
 
 second_waits : StepWaits zero_held 2
 unfolding steps
 second_waits = refl
 
 token_zero : cases.TokenZero
-token_zero = rw zero_held (refl, refl, refl, second_waits, refl, refl, refl)
+token_zero = rw zero_held_lem (refl, refl, refl, second_waits, refl, refl, refl)
 
 no_such_process : OnBoth cases.NoSuchProcess
 unfolding runs

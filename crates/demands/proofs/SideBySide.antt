@@ -188,8 +188,12 @@ runs_meet : (n : ℕ) (u b : Table) → Beside n u b → (pieces : List Piece) �
 runs_meet n u b beside [] = tt
 runs_meet n u b beside (p ∷ later) =
     λ stop.
-    let tables = run_tables n u b beside p stop in
-    (beside_meets n _ _ tables, run_counts n u b beside p stop, run_buffers n u b beside p stop, runs_meet n _ _ tables later)
+    let tables = run_tables n u b beside p stop in (
+      beside_meets n _ _ tables,
+      run_counts n u b beside p stop,
+      run_buffers n u b beside p stop,
+      runs_meet n (run_of u p.schedule p.buffer).table (run_of b p.schedule p.buffer).table tables later,
+    )
 
 pub in_runs : InRuns
 in_runs n c = runs_meet n _ _ (fresh_beside n c)

@@ -1,17 +1,15 @@
 -- Every table that code holds is sized, since owning an array says how many elements it has: what the laws ask of a table's sizes is no
--- premise of a call. At a parameter t of a function it is `held_sized c.args.t _ c.good.0`.
+-- premise of a call. At a parameter t of a function it is `held_sized c.args.t _ c.well_formed.0`.
 use Prim.Native.Nat.{ℕ, zero, suc, ◌-◌, ◌<◌}
-use mathlib.Core.Path.{◌≡◌, sym, ◌∙◌}
-use mathlib.Core.List.{List, [], ◌∷◌, map}
+use mathlib.Core.Path.{◌≡◌}
+use mathlib.Core.List.{List, [], ◌∷◌}
 use native.Mathlib.Omega.{arith}
 use native.Mathlib.Nat.{not-suc-le-zero, le_of_suc-le-suc}
-use borrow.Author.Rules.{length_unmapped}
-use lib.ListN.{length, get_or, length-map}
+use lib.ListN.{length, get_or}
 use base.Fml.{Fml}
 use mir.Val.{Val}
 use denote.Array.{each}
 use denote.Shadow.{shadow}
-use denote.Struct.Declared as declared
 use Rattle.fields.specs.Numbers.{slots}
 use Rattle.table.specs.WellFormed.{no_row}
 use Rattle.table.specs.Sized.{Sized}

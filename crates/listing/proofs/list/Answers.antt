@@ -9,7 +9,6 @@ use Rattle.table.proofs.WellFormed.{fresh_of_well_formed}
 use Rattle.listing.specs.Listing.{schedule_in}
 use Rattle.listing.specs.Room.{room}
 use Rattle.listing.proofs.Listings.{listing_short, listing_not_fresh, listing_long, listing_run}
-use borrow.Author.Rules.{rules}
 use native.Mathlib.Omega.{arith}
 use Rattle.listing.proofs.list.Goals as goal
 
@@ -21,14 +20,14 @@ listed w fits e = rw e ((omega (arith, w.place), fits), w.bytes)
 pub returns-then-input-lt2 : goal.returns-then-input-lt2
 returns-then-input-lt2 c =
     let r =
-        listed c.put_refused.ensures.written c.put_refused.ensures.upper_bound (listing_short _ c.if-input-lt2.true) in
+    listed c.put_refused.ensures.written c.put_refused.ensures.upper_bound (listing_short _ c.if-input-lt2.true) in
     record { value = r.0; text_after = r.1 }
 
 pub returns-then-stop-ne-NO_REFUSAL : goal.returns-then-stop-ne-NO_REFUSAL
 returns-then-stop-ne-NO_REFUSAL c =
     let r =
-        listed (rw c.fresh-started.ensures at c.put_refused-then-stop-ne-NO_REFUSAL.ensures.written) c.put_refused-then-stop-ne-NO_REFUSAL.ensures.upper_bound
-        (listing_not_fresh _ c.if-input-lt2.false (rw c.fresh-started.ensures at c.if-stop-ne-NO_REFUSAL.true)) in
+    listed (rw c.fresh-started.ensures at c.put_refused-then-stop-ne-NO_REFUSAL.ensures.written) c.put_refused-then-stop-ne-NO_REFUSAL.ensures.upper_bound
+    (listing_not_fresh _ c.if-input-lt2.false (rw c.fresh-started.ensures at c.if-stop-ne-NO_REFUSAL.true)) in
     record { value = r.0; text_after = r.1 }
 
 -- the part of the input after the first two bytes is the schedule
@@ -39,10 +38,10 @@ pub returns-then-schedule-gt-SCHEDULE_LIMIT : goal.returns-then-schedule-gt-SCHE
 returns-then-schedule-gt-SCHEDULE_LIMIT c =
     let input = c.args.input.now in
     let r =
-        listed c.put_refused-then-schedule-gt-SCHEDULE_LIMIT.ensures.written c.put_refused-then-schedule-gt-SCHEDULE_LIMIT.ensures.upper_bound
-        (listing_long _ c.if-input-lt2.false
-        (rw c.fresh-started.ensures at c.if-stop-ne-NO_REFUSAL.false)
-        (rw (its_schedule input) at c.if-schedule-gt-SCHEDULE_LIMIT.true)) in
+    listed c.put_refused-then-schedule-gt-SCHEDULE_LIMIT.ensures.written c.put_refused-then-schedule-gt-SCHEDULE_LIMIT.ensures.upper_bound
+    (listing_long _ c.if-input-lt2.false
+    (rw c.fresh-started.ensures at c.if-stop-ne-NO_REFUSAL.false)
+    (rw (its_schedule input) at c.if-schedule-gt-SCHEDULE_LIMIT.true)) in
     record { value = r.0; text_after = r.1 }
 
 pub put_report-requires : goal.put_report-requires
@@ -53,9 +52,9 @@ pub returns : goal.returns
 returns c =
     let input = c.args.input.now in
     let r =
-        listed (rw (c.fresh-started.ensures, its_schedule input) at c.put_report.ensures.written) c.put_report.ensures.upper_bound
-        (listing_run input c.if-input-lt2.false
-        (rw c.fresh-started.ensures at c.if-stop-ne-NO_REFUSAL.false)
-        (rw (its_schedule input) at c.if-schedule-gt-SCHEDULE_LIMIT.false))
- in
+    listed (rw (c.fresh-started.ensures, its_schedule input) at c.put_report.ensures.written) c.put_report.ensures.upper_bound
+    (listing_run input c.if-input-lt2.false
+    (rw c.fresh-started.ensures at c.if-stop-ne-NO_REFUSAL.false)
+    (rw (its_schedule input) at c.if-schedule-gt-SCHEDULE_LIMIT.false))
+    in
     record { value = r.0; text_after = r.1 }

@@ -2,7 +2,6 @@
 use Rattle.laws.proofs.Writes.{and_then, room_first, room_next}
 use Rattle.listing.specs.Text.{ascii, numbered, numbered_line}
 use Rattle.listing.specs.Listing.{bakery_line}
-use borrow.Author.Rules.{rules}
 use Rattle.listing.proofs.put_bakery.Goals as goal
 
 pub put_numbered-next-requires : goal.put_numbered-next-requires

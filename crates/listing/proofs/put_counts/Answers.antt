@@ -8,7 +8,6 @@ use Rattle.machine.specs.declared.Ran.{Ran}
 use Rattle.listing.specs.Text.{ascii, numbered, numbered_line}
 use Rattle.listing.specs.Listing.{counts_line}
 use Rattle.listing.specs.Room.{room}
-use borrow.Author.Rules.{rules}
 use Rattle.listing.proofs.put_counts.Goals.{After-put_numbered-after_waiting}
 use Rattle.listing.proofs.put_counts.Goals as goal
 

@@ -1,13 +1,10 @@
 -- `put_entries` meets its contract. The loop's invariant: the lines of the entries passed are written.
-use Prim.Native.Nat.{◌+◌, ◌-◌, ◌≤◌}
+use Prim.Native.Nat.{◌+◌}
 use mathlib.Core.Path.{refl}
-use lib.ListN.{length, take}
 use lib.Seq.{take_all}
-use Rattle.laws.specs.Lent.{Written}
 use Rattle.laws.proofs.Writes.{and_then, room_next}
 use Rattle.listing.specs.Listing.{entry_lines}
 use Rattle.listing.proofs.EntryLines.{lines_more, lines_room}
-use borrow.Author.Rules.{rules}
 use native.Mathlib.Omega.{arith}
 use Rattle.listing.proofs.put_entries.Goals as goal
 

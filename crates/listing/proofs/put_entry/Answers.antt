@@ -1,7 +1,6 @@
 -- `put_entry` meets its contract.
 use Rattle.listing.specs.Text.{ascii, numbered, numbered_line}
 use Rattle.listing.specs.Listing.{entry_line}
-use borrow.Author.Rules.{rules}
 use Rattle.listing.proofs.put_entry.Goals as goal
 
 pub put_line-requires : goal.put_line-requires

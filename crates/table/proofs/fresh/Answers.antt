@@ -1,7 +1,6 @@
 -- `fresh` meets its contract: each `return` is the case of `fresh_of` that the tests before it lead to.
 use Rattle.laws.proofs.Tests.{passed, failed}
 use Rattle.table.specs.Fresh.{fresh_of}
-use borrow.Author.Rules.{rules}
 use Rattle.table.proofs.fresh.Goals as goal
 
 pub returns-then-not-algorithm_ok : goal.returns-then-not-algorithm_ok

@@ -1,5 +1,4 @@
 -- `table::refused` meets its contract.
-use borrow.Author.Rules.{rules}
 use Rattle.table.proofs.refused.Goals as goal
 
 pub returns : goal.returns

@@ -1,6 +1,5 @@
 -- `cell_ok` meets its contract.
 use Rattle.fields.specs.Rules.{cell_ok}
-use borrow.Author.Rules.{rules}
 use Rattle.fields.proofs.rules.cell_ok.Goals as goal
 
 pub returns-then-may : goal.returns-then-may

@@ -1,7 +1,6 @@
 -- `choosing_ok` meets its contract.
 use mathlib.Core.Path.{sym, ◌∙◌}
 use Rattle.fields.specs.Rules.{choosing_ok}
-use borrow.Author.Rules.{rules}
 use Rattle.fields.proofs.rules.choosing_ok.Goals as goal
 
 pub returns-then-number_within : goal.returns-then-number_within

@@ -2,7 +2,6 @@
 use mathlib.Core.Path.{sym, ◌∙◌}
 use borrow.Author.Tests.{eq-eqb, ne_eqb}
 use Rattle.fields.specs.Rules.{index_ok}
-use borrow.Author.Rules.{rules}
 use Rattle.fields.proofs.rules.index_ok.Goals as goal
 
 pub returns-then-line-eq2 : goal.returns-then-line-eq2

@@ -4,7 +4,6 @@ use borrow.Author.Tests.{eq-eqb, ne_eqb}
 use lib.IntN.{pos}
 use Rattle.fields.specs.Numbers.{limit_of}
 use native.Mathlib.Omega.{arith}
-use borrow.Author.Rules.{rules}
 use Rattle.fields.proofs.rules.limit_of.Goals as goal
 
 pub returns-then-algorithm-eq-UNBOUNDED : goal.returns-then-algorithm-eq-UNBOUNDED

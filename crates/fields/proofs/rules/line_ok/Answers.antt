@@ -1,7 +1,6 @@
 -- `line_ok` meets its contract.
 use borrow.Author.Tests.{le-leb, lt-leb}
 use Rattle.fields.specs.Rules.{line_ok}
-use borrow.Author.Rules.{rules}
 use Rattle.fields.proofs.rules.line_ok.Goals as goal
 
 pub returns-then-i-n : goal.returns-then-i-n

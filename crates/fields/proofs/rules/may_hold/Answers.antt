@@ -1,6 +1,5 @@
 -- `may_hold` meets its contract.
 use Rattle.fields.specs.Rules.{may_hold}
-use borrow.Author.Rules.{rules}
 use Rattle.fields.proofs.rules.may_hold.Goals as goal
 
 pub returns : goal.returns

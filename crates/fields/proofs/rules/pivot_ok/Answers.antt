@@ -1,7 +1,6 @@
 -- `pivot_ok` meets its contract.
 use borrow.Author.Tests.{eq-eqb, ne_eqb}
 use Rattle.fields.specs.Rules.{pivot_ok}
-use borrow.Author.Rules.{rules}
 use Rattle.fields.proofs.rules.pivot_ok.Goals as goal
 
 pub returns-then-line-eq4 : goal.returns-then-line-eq4

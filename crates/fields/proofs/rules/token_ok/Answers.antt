@@ -1,7 +1,6 @@
 -- `token_ok` meets its contract.
 use mathlib.Core.Path.{sym, ◌∙◌}
 use Rattle.fields.specs.Rules.{token_ok}
-use borrow.Author.Rules.{rules}
 use Rattle.fields.proofs.rules.token_ok.Goals as goal
 
 pub returns-then-number_within : goal.returns-then-number_within

@@ -3,7 +3,6 @@ use mathlib.Core.Path.{◌≡◌, ap, ◌∙◌}
 use lib.ListN.{take}
 use Rattle.listing.specs.Text.{decimal}
 use Rattle.listing.proofs.Decimals.{decimal_digits}
-use borrow.Author.Rules.{rules}
 use Rattle.listing.proofs.text.put_decimal.Goals.{After-decimal-count}
 use Rattle.listing.proofs.text.put_decimal.Goals as goal
 

@@ -1,9 +1,7 @@
 -- `put_word` meets its contract. The loop's invariant: the bytes passed are written.
-use Prim.Native.Nat.{◌≤◌, ◌-◌}
 use mathlib.Core.Path.{◌≡◌, refl, ◌∙◌}
-use lib.ListN.{length, take}
-use lib.Seq.{sets, take_all}
-use borrow.Author.Rules.{rules}
+use lib.ListN.{length}
+use lib.Seq.{take_all}
 use native.Mathlib.Omega.{arith}
 use Rattle.laws.proofs.Writes.{sets_more}
 use Rattle.listing.proofs.text.put_word.Goals as goal

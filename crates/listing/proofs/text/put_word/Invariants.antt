@@ -1,11 +1,8 @@
 -- `put_word` meets its contract. The loop's invariant: the bytes passed are written.
 use Prim.Native.Nat.{◌≤◌, ◌-◌}
-use mathlib.Core.Path.{◌≡◌, refl, ◌∙◌}
+use mathlib.Core.Path.{◌≡◌}
 use lib.ListN.{length, take}
-use lib.Seq.{sets, take_all}
-use borrow.Author.Rules.{rules}
-use native.Mathlib.Omega.{arith}
-use Rattle.laws.proofs.Writes.{sets_more}
+use lib.Seq.{sets}
 use Rattle.listing.proofs.text.put_word.Given as goal
 
 abbrev pub invariant-loop-k : goal.invariant-loop-k

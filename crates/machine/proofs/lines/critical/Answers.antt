@@ -3,7 +3,6 @@ use mathlib.Core.Path.{sym, ◌∙◌}
 use Rattle.machine.specs.Lines.{line_step}
 use Rattle.machine.proofs.ByLine.{at_line}
 use native.Mathlib.Omega.{arith}
-use borrow.Author.Rules.{rules}
 use Rattle.machine.proofs.lines.critical.Goals as goal
 
 pub returns-in-8 : goal.returns-in-8

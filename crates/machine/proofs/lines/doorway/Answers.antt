@@ -3,7 +3,6 @@ use mathlib.Core.Path.{sym, ◌∙◌}
 use Rattle.machine.specs.Lines.{line_step}
 use Rattle.machine.proofs.ByLine.{at_line}
 use native.Mathlib.Omega.{arith}
-use borrow.Author.Rules.{rules}
 use Rattle.machine.proofs.lines.doorway.Goals as goal
 
 pub returns-in-3 : goal.returns-in-3

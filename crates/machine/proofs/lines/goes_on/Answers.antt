@@ -1,7 +1,6 @@
 -- `goes_on` meets its contract.
 use borrow.Author.Tests.{le-leb, lt-leb}
 use Rattle.machine.specs.Lines.{goes_on}
-use borrow.Author.Rules.{rules}
 use Rattle.machine.proofs.lines.goes_on.Goals as goal
 
 pub returns-then-next-n : goal.returns-then-next-n

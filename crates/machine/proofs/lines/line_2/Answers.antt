@@ -1,7 +1,6 @@
 -- `line_2` meets its contract.
 use borrow.Author.Tests.{eq-eqb, ne_eqb}
 use Rattle.machine.specs.Lines.{line2}
-use borrow.Author.Rules.{rules}
 use Rattle.machine.proofs.lines.line_2.Goals as goal
 
 pub returns-then-j-n : goal.returns-then-j-n

@@ -1,7 +1,6 @@
 -- `line_6` meets its contract.
 use borrow.Author.Tests.{eq-eqb, ne_eqb}
 use Rattle.machine.specs.Lines.{line6}
-use borrow.Author.Rules.{rules}
 use Rattle.machine.proofs.lines.line_6.Goals as goal
 
 pub returns-then-s-eq0 : goal.returns-then-s-eq0

@@ -1,7 +1,6 @@
 -- `line_7` meets its contract.
 use mathlib.Core.Path.{sym, ◌∙◌}
 use Rattle.machine.specs.Lines.{line7}
-use borrow.Author.Rules.{rules}
 use Rattle.machine.proofs.lines.line_7.Goals as goal
 
 pub returns-then-passes : goal.returns-then-passes

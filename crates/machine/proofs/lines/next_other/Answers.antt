@@ -1,7 +1,6 @@
 -- `next_other` meets its contract.
 use borrow.Author.Tests.{eq-eqb, ne_eqb}
 use Rattle.machine.specs.Lines.{next_other}
-use borrow.Author.Rules.{rules}
 use Rattle.machine.proofs.lines.next_other.Goals as goal
 
 pub returns-then-j-i : goal.returns-then-j-i

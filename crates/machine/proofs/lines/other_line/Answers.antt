@@ -1,10 +1,8 @@
 -- `other_line` meets its contract: at a line that is none of 1 to 10 it waits.
 use mathlib.Core.Path.{sym, ◌∙◌}
-use mathlib.Core.Logic.{⊎_elim}
 use Rattle.machine.specs.Lines.{line_step}
 use Rattle.machine.proofs.ByLine.{at_line, at_no_line}
 use native.Mathlib.Omega.{arith}
-use borrow.Author.Rules.{rules}
 use Rattle.machine.proofs.lines.other_line.Goals as goal
 use Rattle.machine.proofs.lines.other_line.Goals.{in_default-via-then-line-lt1}
 use Rattle.machine.proofs.lines.other_line.Goals.{in_default-via-else-line-lt1+else-line-lt6+then-line-lt8}
@@ -25,7 +23,7 @@ returns-in_default c =
     λ algorithm next. c.kept.ensures
     ∙ sym (at_no_line algorithm _ _ next _ _
     (λ k l h e. elim c.in_default.branch [
-      in_default-via-then-line-lt1 w ↦ omega arith
+      | in_default-via-then-line-lt1 w ↦ omega arith
       | in_default-via-else-line-lt1+else-line-lt6+then-line-lt8 w ↦ omega arith
       | in_default-via-else-line-lt1+else-line-lt6+else-line-lt8+else-line-lt11 w ↦ omega arith
     ]))

@@ -2,7 +2,6 @@
 use mathlib.Core.Path.{sym, ap, ◌∙◌}
 use Rattle.fields.specs.Numbers.{is_none}
 use Rattle.tokens.proofs.Answers.{before_counted}
-use borrow.Author.Rules.{rules}
 use Rattle.machine.proofs.lines.passes.Goals as goal
 
 pub returns-then-is_none : goal.returns-then-is_none

@@ -1,6 +1,5 @@
 -- `next_of` meets its contract.
 use mathlib.Core.Path.{◌∙◌}
-use borrow.Author.Rules.{rules}
 use Rattle.machine.proofs.rows.next_of.Goals as goal
 
 pub returns : goal.returns

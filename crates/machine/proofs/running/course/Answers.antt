@@ -1,30 +1,26 @@
 -- `course` meets its contract. The loop's invariant: what it has come to is the course of the bytes passed.
-use Prim.Native.Nat.{◌+◌, ◌-◌, ◌<◌, ◌≤◌}
+use Prim.Native.Nat.{◌+◌, ◌<◌, ◌≤◌}
 use mathlib.Core.Path.{◌≡◌, ap, ◌∙◌}
-use mathlib.Core.Bool.{true}
-use mathlib.Core.Logic.{⊎_elim}
 use mir.Facts.{to_z-of_z}
 use mir.Syntax.{w32, w64}
 use mir.Val.{Fits, SFits}
-use lib.ListN.{length, get_or}
-use Rattle.laws.specs.Tests.{within}
+use lib.ListN.{get_or}
 use Rattle.laws.proofs.Tests.{passed, failed}
 use Rattle.fields.specs.Numbers.{slots}
 use Rattle.fields.specs.Refusals.{no_refusal, bad_process_number}
-use Rattle.courses.proofs.Going.{Going, begins, moved_few, listed_few, stops, ends}
-use Rattle.table.specs.WellFormed.{no_row, row_of}
+use Rattle.courses.proofs.Going.{begins, moved_few, listed_few, stops, ends}
+use Rattle.table.specs.WellFormed.{no_row}
 use Rattle.table.proofs.Held.{held_sized}
 use Rattle.tokens.specs.Tokens.{next_token}
 use Rattle.tokens.proofs.Answers.{next_counted}
 use Rattle.machine.specs.Ready.{Ready, OtherLine}
 use Rattle.machine.specs.Lines.{line4}
-use Rattle.machine.specs.Run.{tables, is_entry}
 use Rattle.machine.specs.declared.Stepped.{Stepped}
 use Rattle.machine.proofs.Arms.{takes_read, takes_token, stop_of_4, takes_6_or_7, takes_still, takes_other}
 use Rattle.tokens.specs.Count.{Count}
 use Rattle.machine.proofs.Ready.{ready_at}
 use Rattle.machine.proofs.Steps.{step_bad_number}
-use Rattle.machine.proofs.Going.{Whole, answered, AtByte, byte_stops, byte_taken, byte_passed, byte_waits}
+use Rattle.machine.proofs.Going.{answered, AtByte, byte_stops, byte_taken, byte_passed, byte_waits}
 use borrow.Author.Rules.{rules}
 use native.Mathlib.Omega.{arith}
 use Rattle.machine.proofs.running.course.Goals.{After-line_4-w, After-other_line-w, After-place_of-p, After-place_of-q, After-seen_in-s, In-6-to-7, In_default}
@@ -195,7 +191,7 @@ is_other : (c : In_default)
     OtherLine (get_or t.rows c.place_of-p.result no_row).core
 is_other c =
     elim c.in_default.branch [
-      in_default-via-then-line-lt6 w ↦ omega arith
+      | in_default-via-then-line-lt6 w ↦ omega arith
       | in_default-via-else-line-lt6+else-line-lt8 w ↦ omega arith
     ]
 

@@ -1,5 +1,4 @@
 -- `ended` meets its contract.
-use borrow.Author.Rules.{rules}
 use Rattle.machine.proofs.running.ended.Goals as goal
 
 pub returns : goal.returns

@@ -1,6 +1,5 @@
 -- `note_entry` meets its contract.
 use borrow.Author.Tests.{eq-eqb, ne_eqb}
-use borrow.Author.Rules.{rules}
 use native.Mathlib.Omega.{arith}
 use Rattle.machine.proofs.running.note_entry.Goals as goal
 

@@ -2,7 +2,6 @@
 use borrow.Author.Tests.{le-leb, lt-leb}
 use Rattle.laws.proofs.Tests.{passed, failed}
 use Rattle.machine.specs.Run.{run_refusal, run_of, buffer_of}
-use borrow.Author.Rules.{rules}
 use Rattle.machine.proofs.running.run.Goals as goal
 
 pub returns-then-not-well_formed : goal.returns-then-not-well_formed

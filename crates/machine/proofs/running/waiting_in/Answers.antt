@@ -1,11 +1,9 @@
 -- `waiting_in` meets its contract. The loop's invariant: the rows passed that wait are counted.
-use Prim.Native.Nat.{◌+◌, ◌-◌, ◌≤◌}
+use Prim.Native.Nat.{◌+◌, ◌-◌}
 use mathlib.Core.Path.{◌≡◌, refl}
 use Rattle.laws.specs.Tests.{how_many}
 use Rattle.laws.proofs.Tests.{many_more}
 use Rattle.fields.specs.Numbers.{slots}
-use Rattle.machine.specs.Run.{is_waiting}
-use borrow.Author.Rules.{rules}
 use native.Mathlib.Omega.{arith}
 use Rattle.machine.proofs.running.waiting_in.Goals as goal
 

@@ -1,6 +1,5 @@
 -- `waits_at` meets its contract.
 use mathlib.Core.Path.{sym, ◌∙◌}
-use borrow.Author.Rules.{rules}
 use native.Mathlib.Omega.{arith}
 use Rattle.machine.proofs.running.waits_at.Goals as goal
 

@@ -6,7 +6,6 @@ use Rattle.machine.specs.Step.{step_of}
 use Rattle.machine.specs.declared.Ran.{Ran}
 use Rattle.machine.proofs.Steps.{step_mark_most}
 use Rattle.machine.proofs.Runs.{one_table, one_stop, one_mark}
-use borrow.Author.Rules.{rules}
 use Rattle.machine.proofs.stepping.step.Goals.{After-course-r}
 use Rattle.machine.proofs.stepping.step.Goals as goal
 

@@ -1,17 +1,11 @@
 -- `cells_ok` meets its contract. The loop's invariant: each cell passed keeps its rule.
-use Prim.Native.Nat.{◌≤◌, ◌-◌}
+use Prim.Native.Nat.{◌≤◌}
 use mathlib.Core.Bool.{true}
-use mathlib.Core.Path.{◌≡◌, refl, sym}
+use mathlib.Core.Path.{◌≡◌}
 use Rattle.laws.specs.Tests.{every}
-use Rattle.laws.proofs.Tests.{every_more, every_stops}
 use Rattle.fields.specs.Numbers.{slots}
-use Rattle.table.specs.WellFormed.{cell_rule, cells_ok}
-use borrow.Author.Rules.{rules}
-use native.Mathlib.Omega.{arith}
+use Rattle.table.specs.WellFormed.{cell_rule}
 use Rattle.table.proofs.rules.cells_ok.Given as goal
 
 abbrev pub invariant-loop-k : goal.invariant-loop-k
 invariant-loop-k l = (l.k ≤ slots) × (every (cell_rule l.top.0 l.n l.i l.r) l.k ≡ true)
-
-abbrev pub decreases-loop-k : goal.decreases-loop-k
-decreases-loop-k l = slots - l.k

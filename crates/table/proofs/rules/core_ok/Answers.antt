@@ -1,6 +1,5 @@
 -- `core_ok` meets its contract.
 use Rattle.table.specs.WellFormed.{core_ok}
-use borrow.Author.Rules.{rules}
 use Rattle.table.proofs.rules.core_ok.Goals as goal
 
 pub returns : goal.returns

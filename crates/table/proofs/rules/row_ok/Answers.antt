@@ -1,6 +1,5 @@
 -- `row_ok` meets its contract.
 use Rattle.table.specs.WellFormed.{row_ok}
-use borrow.Author.Rules.{rules}
 use Rattle.table.proofs.rules.row_ok.Goals as goal
 
 pub returns : goal.returns

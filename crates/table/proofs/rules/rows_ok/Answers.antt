@@ -1,12 +1,9 @@
 -- `rows_ok` meets its contract. The loop's invariant: each row passed keeps its rules.
-use Prim.Native.Nat.{◌≤◌, ◌-◌}
-use mathlib.Core.Bool.{true}
 use mathlib.Core.Path.{◌≡◌, refl, sym}
 use Rattle.laws.specs.Tests.{every}
 use Rattle.laws.proofs.Tests.{every_more, every_stops}
 use Rattle.fields.specs.Numbers.{slots}
-use Rattle.table.specs.WellFormed.{row_rule, rows_ok}
-use borrow.Author.Rules.{rules}
+use Rattle.table.specs.WellFormed.{rows_ok}
 use native.Mathlib.Omega.{arith}
 use Rattle.table.proofs.rules.rows_ok.Goals as goal
 

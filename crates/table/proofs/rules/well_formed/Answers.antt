@@ -1,6 +1,5 @@
 -- `well_formed` meets its contract.
 use Rattle.table.specs.WellFormed.{well_formed}
-use borrow.Author.Rules.{rules}
 use Rattle.table.proofs.rules.well_formed.Goals as goal
 
 pub returns : goal.returns

@@ -1,6 +1,5 @@
 -- `larger` meets its contract.
 use mathlib.Core.Path.{sym, ◌∙◌}
-use borrow.Author.Rules.{rules}
 use Rattle.tokens.proofs.numbers.larger.Goals as goal
 
 pub returns-then-is_below : goal.returns-then-is_below

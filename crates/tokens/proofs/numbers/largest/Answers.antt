@@ -1,13 +1,12 @@
 -- `largest` meets its contract. The loop's invariant: the largest of what is left, from here on, is the largest of all.
-use Prim.Native.Nat.{◌<◌, ◌≤◌, ◌-◌}
+use Prim.Native.Nat.{◌<◌}
 use mathlib.Core.Path.{◌≡◌, refl}
 use lib.IntN.{pos}
-use lib.ListN.{length, drop, drop_of_length-le}
+use lib.ListN.{length, drop_of_length-le}
 use lib.Seq.{drop-cons}
 use native.Mathlib.Numerals.{add-one}
 use Rattle.fields.specs.Numbers.{slots}
 use Rattle.tokens.specs.Tokens.{largest}
-use borrow.Author.Rules.{rules}
 use native.Mathlib.Omega.{arith}
 use Rattle.tokens.proofs.numbers.largest.Goals as goal
 

@@ -2,7 +2,6 @@
 use mir.Facts.{to_z_pos}
 use mir.Syntax.{w64}
 use native.Mathlib.Omega.{arith}
-use borrow.Author.Rules.{rules}
 use Rattle.tokens.proofs.numbers.Whole.of_number.Goals as goal
 
 pub returns : goal.returns

@@ -1,6 +1,5 @@
 -- `BToken::next` meets its contract.
 use Rattle.tokens.specs.Tokens.{next_b}
-use borrow.Author.Rules.{rules}
 use Rattle.tokens.proofs.tokens.BToken.next.Goals as goal
 
 pub returns : goal.returns

@@ -1,7 +1,6 @@
 -- `BToken::shifted_cell` meets its contract.
 use mathlib.Core.Path.{sym, ◌∙◌}
 use Rattle.tokens.specs.Tokens.{shifted_cell}
-use borrow.Author.Rules.{rules}
 use Rattle.tokens.proofs.tokens.BToken.shifted_cell.Goals as goal
 
 pub returns-then-is_none : goal.returns-then-is_none

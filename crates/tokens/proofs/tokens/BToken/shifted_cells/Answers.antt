@@ -1,16 +1,13 @@
 -- `BToken::shifted_cells` meets its contract. The loop's invariant: the cells passed are shifted, the others are not written yet.
-use Prim.Native.Nat.{◌≤◌, ◌-◌}
 use mathlib.Core.Path.{◌≡◌, refl, ◌∙◌}
-use mathlib.Core.List.{map, ◌++◌, append-nil}
+use mathlib.Core.List.{append-nil}
 use lib.IntN.{pos}
-use lib.ListN.{take, drop}
 use lib.Seq.{take_all}
 use mir.Facts.{to_z-of_z}
 use mir.Syntax.{w32}
 use mir.Val.{SFits}
 use Rattle.laws.proofs.Lists.{fill_more}
 use Rattle.fields.specs.Numbers.{slots}
-use Rattle.tokens.specs.Tokens.{shifted_cell}
 use borrow.Author.Rules.{rules}
 use native.Mathlib.Omega.{arith}
 use Rattle.tokens.proofs.tokens.BToken.shifted_cells.Goals as goal

@@ -1,6 +1,5 @@
 -- `UbToken::goes_before` meets its contract.
 use Rattle.tokens.specs.Tokens.{before_ub}
-use borrow.Author.Rules.{rules}
 use Rattle.tokens.proofs.tokens.UbToken.goes_before.Goals as goal
 
 pub returns : goal.returns

@@ -1,5 +1,4 @@
 -- `UbToken::largest` meets its contract.
-use borrow.Author.Rules.{rules}
 use Rattle.tokens.proofs.tokens.UbToken.largest.Goals as goal
 
 pub returns : goal.returns
