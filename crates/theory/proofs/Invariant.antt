@@ -70,12 +70,12 @@ due_over others row j = sum (λ k. below j (due_below others (row k).place)) (su
 
 -- at line 1: it holds no token, and has read no cell
 pub record Idle (t : Token) (cell : ℕ → Token) : Type 0 where
-  pub no_token_lem : t ≡ none
+  pub no_token : t ≡ none
   pub nothing_read : (k : ℕ) → cell k ≡ none
 
 -- at lines 2 and 3: no cell is left far behind by X; even when all those that are due have done line 8, X is at most n - 1 above it
 pub record Reads (others x due : ℕ) (t : Token) (cell : ℕ → Token) : Type 0 where
-  pub no_token_lem : t ≡ none
+  pub no_token : t ≡ none
   pub not_far_behind : (k : ℕ) → IsHeld (cell k) → x + due ≤ cell k + others
 
 -- at line 2, with its index
@@ -86,7 +86,7 @@ pub record ReadsCell (others x due j : ℕ) (t : Token) (cell : ℕ → Token) :
 -- at line 4: X may have risen since it was read as the pivot, but not above the largest of the pivot and the cells; and the cells cluster
 -- around the pivot
 pub record Chooses (others x : ℕ) (t p : Token) (cell : ℕ → Token) : Type 0 where
-  pub no_token_lem : t ≡ none
+  pub no_token : t ≡ none
   pub has_pivot : IsHeld p
   pub pivot_behind_x : p ≤ x
   pub x_not_beyond : x ≤ max p (largest cell (suc others))
@@ -148,10 +148,10 @@ own_at others s inv i process p e =
 -- a token that is held is at least X: at each place
 own_at_least_x : (others i x due : ℕ) (t p : Token) (cell : ℕ → Token) (place : Place) → Own others i x due t p cell place → IsHeld t
     → x ≤ t
-own_at_least_x others i x due t p cell at1 o l = absurd (omega (arith, o.no_token_lem))
-own_at_least_x others i x due t p cell (at2 j) o l = absurd (omega (arith, o.reads.no_token_lem))
-own_at_least_x others i x due t p cell at3 o l = absurd (omega (arith, o.no_token_lem))
-own_at_least_x others i x due t p cell at4 o l = absurd (omega (arith, o.no_token_lem))
+own_at_least_x others i x due t p cell at1 o l = absurd (omega (arith, o.no_token))
+own_at_least_x others i x due t p cell (at2 j) o l = absurd (omega (arith, o.reads.no_token))
+own_at_least_x others i x due t p cell at3 o l = absurd (omega (arith, o.no_token))
+own_at_least_x others i x due t p cell at4 o l = absurd (omega (arith, o.no_token))
 own_at_least_x others i x due t p cell at5 o l = o.at_least_x
 own_at_least_x others i x due t p cell (at6 j) o l = o.token.at_least_x
 own_at_least_x others i x due t p cell (at7 j) o l = o.token.at_least_x
@@ -197,7 +197,7 @@ pub fresh_invariant : (others : ℕ) → Invariant others fresh
 fresh_invariant others =
     record {
       begun = omega arith;
-      own = λ i _. record { no_token_lem = refl; nothing_read = λ _. refl };
+      own = λ i _. record { no_token = refl; nothing_read = λ _. refl };
       knows = omega arith;
       no_gap_to_token = λ i _ a l m. absurd (omega arith);
       no_gap_to_cell = λ i k _ a l m. absurd (omega arith);

@@ -144,7 +144,7 @@ module _ (others x x' due due' i j : ℕ) (u p : Token) (cell : ℕ → Token) (
   own_entered at4 fewer known back o =
       let seen : cell i ≡ x' = known.seen all_j all_i in
       record {
-        no_token_lem = o.no_token_lem;
+        no_token = o.no_token;
         has_pivot = o.has_pivot;
         pivot_behind_x = omega (arith, o.pivot_behind_x);
         x_not_beyond = omega (arith, at_most_largest cell (suc others) i pi);
@@ -208,7 +208,7 @@ module _ (others : ℕ) (s : State) (inv : Invariant others s) (i : ℕ) (proces
       keeps_token (at2 1) (s.row i).pivot
       (λ due. record {
         index = record { low = omega arith; high = omega arith };
-        reads = record { no_token_lem = o.no_token_lem; not_far_behind = λ k l. absurd (omega (arith, o.nothing_read k)) };
+        reads = record { no_token = o.no_token; not_far_behind = λ k l. absurd (omega (arith, o.nothing_read k)) };
       })
       (omega arith)
       (omega arith)
@@ -219,7 +219,7 @@ module _ (others : ℕ) (s : State) (inv : Invariant others s) (i : ℕ) (proces
   line2 j e =
       record {
         own = after.own i s.x (due_over others rows i) (s.row i).token (s.row i).pivot r.cell o.index
-            (record { no_token_lem = o.reads.no_token_lem; not_far_behind = not_far_behind });
+            (record { no_token = o.reads.no_token; not_far_behind = not_far_behind });
         others_own = others_sure others s i s.x r inv (λ k _ _ _ l. absurd (omega (arith, after.due)));
         knows = λ k _ _. record {
           seen = λ l _. absurd (omega (arith, after.cleared));
@@ -289,7 +289,7 @@ module _ (others : ℕ) (s : State) (inv : Invariant others s) (i : ℕ) (proces
       let o : Reads others s.x (due_over others s.row i) (s.row i).token (s.row i).cell = sure at3 e in
       keeps_token at4 s.x
       (λ _. record {
-        no_token_lem = o.no_token_lem;
+        no_token = o.no_token;
         has_pivot = inv.begun;
         pivot_behind_x = omega arith;
         x_not_beyond = omega arith;
@@ -297,7 +297,7 @@ module _ (others : ℕ) (s : State) (inv : Invariant others s) (i : ℕ) (proces
           high = omega (
             arith,
             pigeonhole_but_one (λ k. (s.row k).token) (suc others) s.x ((s.row i).cell k) (inv.no_gap_to_cell i k process) i process
-                (omega (arith, o.no_token_lem)),
+                (omega (arith, o.no_token)),
           );
           low = omega (arith, o.not_far_behind k l);
         };
@@ -326,13 +326,13 @@ module _ (others : ℕ) (s : State) (inv : Invariant others s) (i : ℕ) (proces
           );
         };
         rises = omega arith;
-        keeps = λ a l z. absurd (omega (arith, o.no_token_lem));
+        keeps = λ a l z. absurd (omega (arith, o.no_token));
         no_gap_to_token = λ a l m. by_equality a t
             (λ z. record { who = i; process = process; is = ap (λ (b : Row). b.token) (set_same s.row i r) ∙ sym z })
             (λ z.
             let w : Reaches (s.row i).cell (suc others) a =
             largest_reached (s.row i).cell (suc others) a (omega arith) (omega (arith, o.pivot_behind_x)) in
-            no_gap_kept others s i s.x r (omega arith) (λ a l z. absurd (omega (arith, o.no_token_lem))) ((s.row i).cell w.who)
+            no_gap_kept others s i s.x r (omega arith) (λ a l z. absurd (omega (arith, o.no_token))) ((s.row i).cell w.who)
             (inv.no_gap_to_cell i w.who process) a l w.reaches);
         no_gap_to_cell = λ k a l m. absurd (omega arith);
       }
@@ -454,7 +454,7 @@ module _ (others : ℕ) (s : State) (inv : Invariant others s) (i : ℕ) (proces
       let o : Inside s.x (s.row i).token (s.row i).cell = sure at10 e in
       let r : Row = row_after others (unbounded_machine others) s i at10 in
       record {
-        own = record { no_token_lem = refl; nothing_read = o.nothing_read };
+        own = record { no_token = refl; nothing_read = o.nothing_read };
         others_own = others_sure others s i s.x r inv (omega arith);
         knows = omega arith;
         known = omega arith;

@@ -34,7 +34,7 @@ set_pairs P f i a left right rest k j apart =
 -- A process that reads stays sure of its cells where X and those that are due together come no higher.
 pub reads_still : {others : ℕ} {t : Token} {cell : ℕ → Token} (x x' due due' : ℕ) → x' + due' ≤ x + due → Reads others x due t cell
     → Reads others x' due' t cell
-reads_still x x' due due' le o = record { no_token_lem = o.no_token_lem; not_far_behind = λ k l. omega (arith, o.not_far_behind k l) }
+reads_still x x' due due' le o = record { no_token = o.no_token; not_far_behind = λ k l. omega (arith, o.not_far_behind k l) }
 
 -- A process stays sure of what its line says where fewer are due over it. (Only while it reads does the number matter.)
 own_due : (others i x due due' : ℕ) (t p : Token) (cell : ℕ → Token) (place : Place) → (1 ≤ read_below others place → due' ≤ due)
