@@ -11,44 +11,50 @@ mod round_trips;
 
 use printing::put;
 use reading::{next_byte, next_length, next_piece, put_not_a_case};
+use std::fs::File;
+use std::io::{Read, Write};
+use std::rt::Files;
+use std::{env, io};
 
 // The answer to a case by its kind.
-fn put_answer(file: i32) {
-    let kind = next_byte(file);
+fn put_answer(file: &mut impl Read, output: &mut impl Write) -> io::Result<()> {
+    let kind = next_byte(file, output)?;
     match kind {
-        b'F' => answers::put_fresh(file),
-        b'S' => answers::put_step(file),
-        b'R' => answers::put_run(file),
-        b'D' => forms::put_read(file),
-        b'W' => forms::put_write(file),
-        _ => put_not_a_case(),
+        b'F' => answers::put_fresh(file, output),
+        b'S' => answers::put_step(file, output),
+        b'R' => answers::put_run(file, output),
+        b'D' => forms::put_read(file, output),
+        b'W' => forms::put_write(file, output),
+        _ => put_not_a_case(output),
     }
 }
 
 // The line above a case's answer.
-fn put_heading(file: i32) {
-    let mut space = io::buffer();
-    let heading = next_piece(file, &mut space);
-    put(heading);
+fn put_heading(file: &mut impl Read, output: &mut impl Write) -> io::Result<()> {
+    let mut space = [0; 4096];
+    let heading = next_piece(file, output, &mut space)?;
+    put(output, heading)
 }
 
 // The cases of a data file, which opens with their number.
-fn put_cases(file: i32) {
-    for _ in 0..next_length(file) {
-        put_heading(file);
-        put_answer(file);
+fn put_cases(file: &mut impl Read, output: &mut impl Write) -> io::Result<()> {
+    for _ in 0..next_length(file, output)? {
+        put_heading(file, output)?;
+        put_answer(file, output)?;
     }
+    Ok(())
 }
 
-// The data file that argument i names. Of one that is not there nothing can be read.
-fn put_argument(i: usize) {
-    let mut name = io::buffer();
-    let length = os::arg(i, &mut name);
-    put_cases(os::open_read(&name[..length]));
+// The data file that an argument names. One that is not there ends the run.
+fn put_argument(rt: &impl Files, name: &str, output: &mut impl Write) -> io::Result<()> {
+    let mut file = File::open(rt, name)?;
+    put_cases(&mut file, output)
 }
 
-fn main() {
-    for i in 1..os::arg_count() {
-        put_argument(i);
+fn main(rt: HostRuntime) -> io::Result<()> {
+    let mut output = io::writer(&rt);
+    for name in env::args(&rt)?.skip(1) {
+        put_argument(&rt, name.as_str(), &mut output)?;
     }
+    Ok(())
 }

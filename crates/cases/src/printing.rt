@@ -1,8 +1,9 @@
-// Words, numbers and tables on standard output.
+// Words, numbers and tables on the output.
 ghost use Rattle.std.specs.Prelude.{◌<◌};
 
 use fields::{NONE, SLOTS};
-use libc::STDOUT_FILENO;
+use std::io;
+use std::io::Write;
 use table::{Row, Table};
 
 // How many numbers a row has before its cells, and in all.
@@ -10,40 +11,59 @@ const FIELDS: usize = 5;
 
 const NUMBERS: usize = FIELDS + SLOTS;
 
-pub(crate) fn put(text: &[u8]) {
-    io::write_all(STDOUT_FILENO, text);
+pub(crate) fn put(output: &mut impl Write, text: &[u8]) -> io::Result<()> {
+    output.write_all(text)
 }
 
-fn put_byte(byte: u8) {
-    put(&[byte]);
+fn put_byte(output: &mut impl Write, byte: u8) -> io::Result<()> {
+    put(output, &[byte])
 }
 
-fn put_count(count: usize) {
-    io::print_decimal(STDOUT_FILENO, count as u64);
+fn put_count(output: &mut impl Write, count: usize) -> io::Result<()> {
+    write!(output, "{count}")
 }
 
 // A letter; the digits 0 to 5 stand for the counts.
-fn put_letter(letter: u8, a: usize, b: usize, c: usize, d: usize, e: usize, f: usize) {
+fn put_letter(
+    output: &mut impl Write,
+    letter: u8,
+    a: usize,
+    b: usize,
+    c: usize,
+    d: usize,
+    e: usize,
+    f: usize,
+) -> io::Result<()> {
     match letter {
-        b'0' => put_count(a),
-        b'1' => put_count(b),
-        b'2' => put_count(c),
-        b'3' => put_count(d),
-        b'4' => put_count(e),
-        b'5' => put_count(f),
-        _ => put_byte(letter),
+        b'0' => put_count(output, a),
+        b'1' => put_count(output, b),
+        b'2' => put_count(output, c),
+        b'3' => put_count(output, d),
+        b'4' => put_count(output, e),
+        b'5' => put_count(output, f),
+        _ => put_byte(output, letter),
     }
 }
 
 // Some words, with counts in the places of the digits 0 to 5.
-pub(crate) fn put_six(words: &[u8], a: usize, b: usize, c: usize, d: usize, e: usize, f: usize) {
+pub(crate) fn put_six(
+    output: &mut impl Write,
+    words: &[u8],
+    a: usize,
+    b: usize,
+    c: usize,
+    d: usize,
+    e: usize,
+    f: usize,
+) -> io::Result<()> {
     for k in 0..words.len() {
-        put_letter(words[k], a, b, c, d, e, f);
+        put_letter(output, words[k], a, b, c, d, e, f)?;
     }
+    Ok(())
 }
 
-pub(crate) fn put_two(words: &[u8], a: usize, b: usize) {
-    put_six(words, a, b, 0, 0, 0, 0);
+pub(crate) fn put_two(output: &mut impl Write, words: &[u8], a: usize, b: usize) -> io::Result<()> {
+    put_six(output, words, a, b, 0, 0, 0, 0)
 }
 
 // A number without its sign. `!` of one below zero is how far it is from -1, which fits even where the number is the smallest.
@@ -56,12 +76,12 @@ fn magnitude(number: i32) -> u64 {
 }
 
 // A number after a space.
-pub(crate) fn put_number(number: i32) {
-    put_byte(b' ');
+pub(crate) fn put_number(output: &mut impl Write, number: i32) -> io::Result<()> {
+    put_byte(output, b' ')?;
     if number < 0 {
-        put_byte(b'-');
+        put_byte(output, b'-')?;
     }
-    io::print_decimal(STDOUT_FILENO, magnitude(number));
+    write!(output, "{}", magnitude(number))
 }
 
 // The number at place k of a row: its five fields, then its cells.
@@ -97,31 +117,32 @@ fn is_fresh(r: Row) -> bool {
 }
 
 // A number of a row, with a bar between the fields and the cells.
-fn put_number_at(k: usize, number: i32) {
+fn put_number_at(output: &mut impl Write, k: usize, number: i32) -> io::Result<()> {
     if k == FIELDS {
-        put_byte(b' ');
-        put_byte(b'|');
+        put_byte(output, b' ')?;
+        put_byte(output, b'|')?;
     }
-    put_number(number);
+    put_number(output, number)
 }
 
 // A line for the row of a process, unless it is fresh.
-fn put_row(process: usize, r: Row) {
+fn put_row(output: &mut impl Write, process: usize, r: Row) -> io::Result<()> {
     if is_fresh(r) {
-        return;
+        return Ok(());
     }
-    put_two(b"\nrow 0:", process, 0);
+    put_two(output, b"\nrow 0:", process, 0)?;
     for k in 0..NUMBERS {
-        put_number_at(k, number_of(r, k));
+        put_number_at(output, k, number_of(r, k))?;
     }
+    Ok(())
 }
 
-pub(crate) fn put_table(t: Table) {
-    put_two(b"table 0 1 x", t.algorithm as usize, t.n as usize);
-    put_number(t.x);
+pub(crate) fn put_table(output: &mut impl Write, t: Table) -> io::Result<()> {
+    put_two(output, b"table 0 1 x", t.algorithm as usize, t.n as usize)?;
+    put_number(output, t.x)?;
     for k in 0..SLOTS {
         let r = t.rows[k];
-        put_row(k + 1, r);
+        put_row(output, k + 1, r)?;
     }
-    put_byte(b'\n');
+    put_byte(output, b'\n')
 }
