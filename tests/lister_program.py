@@ -3,7 +3,8 @@
     python3 tests/lister_program.py
 
 The inputs are those of tests/cases/lister.txt: each from a file, and the short ones, and the longest, through a pipe
-too, in pieces of which each is written when the lister has read the one before. `rt check lister` builds the program.
+too, in pieces of which each is written when the lister has read the one before. `rt run` in crates/lister builds the
+program.
 """
 
 import fcntl

@@ -35,6 +35,13 @@ def decimal_dump(data):
     return "".join("".join(" %3d" % byte for byte in row) + "\n" for row in rows)
 
 
+def names_in(folder):
+    """The names of the files in a folder and below, without what rt made."""
+    for _, folders, names in os.walk(folder):
+        folders[:] = [name for name in folders if name != "out"]
+        yield from names
+
+
 def edits():
     """The must-fail edits: crate/name."""
     paths = glob.glob(files.whole("crates/*/must-fail/*.edit"))
@@ -49,7 +56,7 @@ def faults():
     for what, text in (("bytes", decimal_dump(sample)), ("listing", bakery.lister(sample).decode("ascii"))):
         if indented(text) not in pages["docs/WALK.md"]:
             yield "docs/WALK.md: these are not the %s of the sample" % what
-    there = {name for _, _, names in os.walk(files.whole("crates")) for name in names}
+    there = set(names_in(files.whole("crates")))
     there |= set(os.listdir(files.ROOT)) | set(os.listdir(files.whole("tests/cases")))
     for path, page in pages.items():
         for name in sorted(set(NAMED_PATH.findall(page))):
@@ -57,7 +64,7 @@ def faults():
                 yield "%s: there is no %s" % (path, name)
         for name in sorted(set(NAMED_FILE.findall(page)) - there):
             yield "%s: there is no %s" % (path, name)
-        for name in sorted(set(re.findall(r"`((?!target)[a-z]+/[a-z0-9_-]+)`", page)) - edits()):
+        for name in sorted(set(re.findall(r"`((?!out/)[a-z]+/[a-z0-9_-]+)`", page)) - edits()):
             if not os.path.exists(files.whole(name)):
                 yield "%s: there is no edit %s" % (path, name)
     yield from not_the_same(pages)
@@ -66,12 +73,12 @@ def faults():
 def not_the_same(pages):
     """Lists in the pages that must be those of other files."""
     promises, reading = pages["docs/PROMISES.md"], pages["docs/READING.md"]
-    theorems = re.findall(r"^pub ([\w-]+) :", files.text(public_calls.THEOREMS), re.M)
+    theorems = re.findall(r"^pub (\w+) :", files.text(public_calls.THEOREMS), re.M)
     steps = [" ".join(command).replace(sys.executable, "python3") for command, _ in gate.STEPS]
     for page, named, there in (
-        ("docs/PROMISES.md: the theorems", re.findall(r"`([\w-]+-relied)`", promises), theorems),
+        ("docs/PROMISES.md: the theorems", re.findall(r"`(\w+_relied)`", promises), theorems),
         ("docs/READING.md: the crates", re.findall(r"^\| `(\w+)` \|", reading, re.M), public_calls.crates()),
-        ("docs/READING.md: the first steps", re.findall(r"^\| `((?:rt fmt|python3) [^`]*)` \|", reading, re.M), steps),
+        ("docs/READING.md: the first steps", re.findall(r"^\| `(python3 [^`]*)` \|", reading, re.M), steps),
     ):
         for name in sorted(set(named) ^ set(there)):
             yield "%s: %s is in one of the two lists alone" % (page, name)

@@ -6,18 +6,20 @@ It is no part of the gate. For both machines and each N (3 and 16 if none is giv
 the library's run, those of the loop in tests/run_cost.c, and the ratio of the two. The schedules are pseudo-random, or
 such that nobody waits, and the same for both; beside them stands the share of their bytes whose step waits.
 
-The library's run is built by `rt staticlib`, as C can call it, and the loop by the same compiler at the same level: the
-clang of the Rattle kit at -O3, for x86-64. The kit's emulator counts the instructions. A run over a schedule less a run
-over its front leaves the loop alone, since all else cancels out, and nothing in it is printed.
+The library's run is built by `rt lib` of a static library, as C can call it, and the loop by the same compiler at the
+same level: the clang of the Rattle kit at -O3, for x86-64. Valgrind counts the instructions. A run over a schedule less
+a run over its front leaves the loop alone, since all else cancels out, and nothing in it is printed.
 """
 
 import collections
 import functools
 import os
+import re
 import shutil
 import struct
 import subprocess
 import sys
+import tempfile
 
 sys.dont_write_bytecode = True
 
@@ -40,7 +42,7 @@ pub struct Counts {
     pub stop: u8,
 }
 
-#[no_mangle]
+#[unsafe(no_mangle)]
 pub extern "C" fn library_run(algorithm: u8, n: u8, schedule: &[u8], entries: &mut [u8]) -> Counts {
     let r = CALL(table::fresh(algorithm, n).table, schedule, entries);
     Counts {
@@ -54,14 +56,13 @@ pub extern "C" fn library_run(algorithm: u8, n: u8, schedule: &[u8], entries: &m
 }
 """.replace("CALL", CALL)
 
-# The program is built in a repository of its own, with links to the crates of this one and to what is proved of them.
+# The static library and the program, which are built in a repository of their own, with copies of the crates of this one.
 NAME = "run_cost"
-FOLDER = files.whole("target/" + NAME)
-PROGRAM = os.path.join(FOLDER, NAME)
 TARGET = "x86_64-unknown-linux-gnu"
 # As rt calls it for a program.
-COMPILER_WORDS = ("--target=" + TARGET, "-march=x86-64", "-O3", "-fPIE", "-ffunction-sections", "-fdata-sections")
-COUNTING_WORDS = ("-one-insn-per-tb", "-d", "exec,nochain")  # the emulator then writes a line for each instruction
+COMPILER_WORDS = ("--target=" + TARGET, "-march=x86-64-v2", "-O3", "-fPIE", "-ffunction-sections", "-fdata-sections")
+COUNTER = ("valgrind", "--tool=cachegrind", "--cache-sim=no", "--cachegrind-out-file=/dev/null")
+COUNTED = re.compile(r"I +refs: +([\d,]+)")
 
 MACHINES = (("unbounded", bakery.UNBOUNDED), ("bounded", bakery.BOUNDED))
 
@@ -80,101 +81,78 @@ ANSWER = struct.Struct("<6Q")  # what the program writes: these counts, and afte
 
 @functools.lru_cache(maxsize=None)
 def kit(path):
-    """A file that the kit has for this processor."""
+    """A file of the kit."""
     guide = subprocess.run(["rt", "doc"], check=True, stdout=subprocess.PIPE).stdout.decode().strip()
-    return os.path.join(os.path.dirname(os.path.dirname(guide)), "on", os.uname().machine, path)
-
-
-def emulator():
-    """The kit has one where the processor is no x86-64."""
-    own = kit("toolchain/bin/qemu-x86_64")
-    return own if os.path.exists(own) else shutil.which("qemu-x86_64")
+    return os.path.join(os.path.dirname(guide), path)
 
 
 def write(path, text):
-    path = os.path.join(FOLDER, path)
     os.makedirs(os.path.dirname(path), exist_ok=True)
     with open(path, "w", encoding="utf-8") as file:
         file.write(text)
 
 
-def link(path, to):
-    path = os.path.join(FOLDER, path)
-    os.makedirs(os.path.dirname(path), exist_ok=True)
-    os.symlink(to, path)
-
-
-def make_folder():
-    shutil.rmtree(FOLDER, ignore_errors=True)
-    write("crates.txt", "%s%s: table %s\n" % (files.text("crates.txt"), NAME, CRATE))
-    write("crates/%s/src/lib.rt" % NAME, EXPORT)
-    for crate in os.listdir(files.whole("crates")):
-        link("crates/" + crate, files.whole("crates/" + crate))
-    for proved in ("target/rlib", "target/stamp"):
-        os.makedirs(files.whole(proved), exist_ok=True)
-        link(proved, files.whole(proved))
-
-
-def call(*command):
-    """Runs a command in the folder; what it says is shown if it fails."""
-    done = subprocess.run(command, cwd=FOLDER, stdout=subprocess.PIPE, stderr=subprocess.STDOUT)
+def call(folder, *command):
+    """Runs a command in a folder; what it says is shown if it fails."""
+    done = subprocess.run(command, cwd=folder, stdout=subprocess.PIPE, stderr=subprocess.STDOUT)
     if done.returncode != 0:
         sys.exit(done.stdout.decode("utf-8", "replace") + "run_cost: failed: " + " ".join(command))
 
 
-def build():
-    make_folder()
-    call("rt", "staticlib", NAME)
-    call(kit("toolchain/bin/clang"), *COMPILER_WORDS, "-Wall", "-Wextra", "-Werror", "-c",
+def built(folder):
+    """Builds the program in a folder, and answers its path."""
+    shutil.copytree(files.whole("crates"), os.path.join(folder, "crates"), ignore=shutil.ignore_patterns("out"))
+    write(os.path.join(folder, "crates.txt"), "%s%s staticlib: table %s\n" % (files.text("crates.txt"), NAME, CRATE))
+    crate = os.path.join(folder, "crates", NAME)
+    write(os.path.join(crate, "src/lib.rt"), EXPORT)
+    call(crate, "rt", "lib")
+    call(folder, kit("toolchain/bin/clang"), *COMPILER_WORDS, "-Wall", "-Wextra", "-Werror", "-c",
          files.whole("tests/run_cost.c"), "-o", "main.o")
-    call(kit("bin/rattle-link"), "--target", TARGET, "--toolchain", kit("toolchain"), "-o", PROGRAM, "main.o",
-         "target/staticlib/lib%s.a" % NAME)
+    call(folder, kit("bin/rattle-link"), "--target", TARGET, "--toolchain", kit("toolchain"), "-o", NAME, "main.o",
+         os.path.join(crate, "out/lib%s.a" % NAME))
+    return os.path.join(folder, NAME)
 
 
-def command(which, *words):
-    libraries = kit("toolchain/lib")
-    return [emulator(), *words, libraries + "/ld-linux-x86-64.so.2", "--library-path", libraries, PROGRAM, which]
-
-
-def instructions(which, path):
+def instructions(program, which, path):
     """How many instructions the program executes, the loading of it included."""
-    with open(path, "rb") as given, subprocess.Popen(
-            command(which, *COUNTING_WORDS), stdin=given, env={}, stdout=subprocess.DEVNULL,
-            stderr=subprocess.PIPE) as run:
-        return sum(line.startswith(b"Trace") for line in run.stderr)
-
-
-def answer(which, path):
     with open(path, "rb") as given:
-        return subprocess.run(command(which), stdin=given, env={}, check=True, stdout=subprocess.PIPE).stdout
+        said = subprocess.run([*COUNTER, program, which], stdin=given, check=True, stdout=subprocess.DEVNULL,
+                              stderr=subprocess.PIPE).stderr.decode()
+    return int(COUNTED.search(said)[1].replace(",", ""))
 
 
-def counts_of(path):
+def answer(program, which, path):
+    with open(path, "rb") as given:
+        return subprocess.run([program, which], stdin=given, check=True, stdout=subprocess.PIPE).stdout
+
+
+def counts_of(program, path):
     """The counts of a run, which the library and plain C must answer alike, with the same entries."""
-    library, plain = answer("library", path), answer("plain", path)
+    library, plain = answer(program, "library", path), answer(program, "plain", path)
     if library != plain:
         sys.exit("run_cost: the library and plain C differ: " + path)
     return Counts._make(ANSWER.unpack_from(library))
 
 
-def input_file(machine, n, schedule):
-    path = os.path.join(FOLDER, "input-%d" % len(schedule))
+def input_file(program, machine, n, schedule):
+    path = "%s-%d" % (program, len(schedule))
     with open(path, "wb") as file:
         file.write(bytes([machine, n]) + schedule)
     return path
 
 
-def measured(machine, n, make):
+def measured(program, machine, n, make):
     """Of the bytes from FRONT to LENGTH the share that waits, and the instructions a byte, the library's and C's."""
     schedule = make(schedules.Chance("run cost"), machine, n, bakery.SCHEDULE_LIMIT)
     lengths = (FRONT, LENGTH, len(schedule))
-    inputs = [input_file(machine, n, schedule[:length]) for length in lengths]
+    inputs = [input_file(program, machine, n, schedule[:length]) for length in lengths]
     # No tables are compared, but what comes of them is: tables that differ would go on differently up to the end.
-    counts = [counts_of(path) for path in inputs]
+    counts = [counts_of(program, path) for path in inputs]
     if [count.place for count in counts] != list(lengths):
         sys.exit("run_cost: a byte was refused")
     waits = counts[1].waited - counts[0].waited
-    costs = [instructions(which, inputs[1]) - instructions(which, inputs[0]) for which in ("library", "plain")]
+    costs = [instructions(program, which, inputs[1]) - instructions(program, which, inputs[0])
+             for which in ("library", "plain")]
     return [number / (LENGTH - FRONT) for number in (waits, *costs)]
 
 
@@ -182,16 +160,17 @@ def main():
     numbers = [int(word) for word in sys.argv[1:]] or [3, 16]
     if not all(1 <= n <= bakery.ROWS for n in numbers):
         sys.exit("run_cost: n is 1 to %d" % bakery.ROWS)
-    if emulator() is None:
-        sys.exit("run_cost: qemu-x86_64 counts the instructions, and it is neither in the kit nor on the PATH")
-    build()
-    print("| machine | n | schedule | waits | library | plain C | ratio |\n|---|---|---|---|---|---|---|")
-    for name, machine in MACHINES:
-        for n in numbers:
-            for kind, make in MAKERS:
-                waits, library, plain = measured(machine, n, make)
-                print("| %s | %d | %s | %.0f%% | %.1f | %.1f | %.2f |"
-                      % (name, n, kind, 100 * waits, library, plain, library / plain), flush=True)
+    if shutil.which(COUNTER[0]) is None:
+        sys.exit("run_cost: valgrind counts the instructions, and it is not on the PATH")
+    with tempfile.TemporaryDirectory() as folder:
+        program = built(folder)
+        print("| machine | n | schedule | waits | library | plain C | ratio |\n|---|---|---|---|---|---|---|")
+        for name, machine in MACHINES:
+            for n in numbers:
+                for kind, make in MAKERS:
+                    waits, library, plain = measured(program, machine, n, make)
+                    print("| %s | %d | %s | %.0f%% | %.1f | %.1f | %.2f |"
+                          % (name, n, kind, 100 * waits, library, plain, library / plain), flush=True)
 
 
 if __name__ == "__main__":

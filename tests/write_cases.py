@@ -220,7 +220,7 @@ def wanted_files():
 def standing_files():
     """The files that stand there of those that a program is given, or held to."""
     paths = []
-    for pattern in ("stdin", "stdout", "args", "data/**"):
+    for pattern in ("stdin", "stdout", "args", "status", "data/**"):
         paths += glob.glob(files.whole("crates/*/" + pattern), recursive=True)
     paths = [os.path.relpath(path, files.ROOT) for path in sorted(paths) if os.path.isfile(path)]
     return {path: files.contents(path) for path in paths}

@@ -1,24 +1,14 @@
 -- Whether a number is another's remainder, by the signs of the two: what the code compares is what the definition says.
-use Prim.Native.Nat.{ℕ, ◌%◌, ◌<◌, ◌^◌}
+use Prim.Native.Nat.{ℕ, ◌%◌, ◌<◌}
 use mathlib.Core.Path.{◌≡◌, refl}
 use mathlib.Core.Bool.{true, false, true≢false}
 use native.Mathlib.Omega.{arith}
 use borrow.Author.Tests.{ltb-true}
-use lib.Dec.{T, eqb}
+use lib.Dec.{eqb}
 use lib.IntN.{ℤ, pos, negsuc, nat_abs}
-use lib.Signed.{lt_z, non_neg}
-use mir.Syntax.{w32}
-use mir.Val.{SFits, Fits}
+use lib.Signed.{lt_z}
 use Rattle.fields.specs.Numbers.{is_none}
 use Rattle.demands.specs.Agreement.{f, is_remainder}
-
-pub not_below_zero : (z : ℤ) → lt_z z (pos 0) ≡ false → T (non_neg z)
-not_below_zero (pos a) e = tt
-not_below_zero (negsuc a) e = absurd (true≢false e)
-
--- a number from 0 on fits without its sign
-pub number_fits : (z : ℤ) → T (non_neg z) → SFits w32 z → Fits w32 (nat_abs z)
-number_fits (pos a) h signed = let l : a < 2 ^ 31 = signed.sfits in record { fits = omega arith }
 
 module _ (m : ℕ) where
   pub none_with_none : (u b : ℤ) → lt_z u (pos 0) ≡ true → is_none b ≡ is_remainder m u b

@@ -12,9 +12,9 @@ ghost use Rattle.fields.specs.Numbers.{slots};
 ghost use Rattle.compare.specs.Tally.{Sound};
 
 use fields::MOST_PROCESSES;
-use libc::STDOUT_FILENO;
 use pair::Pair;
 use schedule::Schedule;
+use std::io;
 use tally::Tally;
 
 // How many passages without waits a schedule has bytes for.
@@ -60,36 +60,35 @@ fn over_count(n: u8) -> Tally
     single.plus(short).plus(long)
 }
 
-fn put_number(word: &[u8], number: u64) {
-    io::write_all(STDOUT_FILENO, word);
-    io::print_decimal(STDOUT_FILENO, number);
+fn put_number(rt: &impl Print, word: &str, number: u64) -> io::Result<()> {
+    print!(rt; "{word}{number}")
 }
 
-fn put_tally(t: Tally) {
-    put_number(b": bytes ", t.bytes);
-    put_number(b" entries ", t.entries);
-    put_number(b" waits ", t.waits);
-    put_number(b" refused ", t.refused);
-    put_number(b" disagreements ", t.disagreements);
-    io::write_all(STDOUT_FILENO, b"\n");
+fn put_tally(rt: &impl Print, t: Tally) -> io::Result<()> {
+    put_number(rt, ": bytes ", t.bytes)?;
+    put_number(rt, " entries ", t.entries)?;
+    put_number(rt, " waits ", t.waits)?;
+    put_number(rt, " refused ", t.refused)?;
+    put_number(rt, " disagreements ", t.disagreements)?;
+    println!(rt)
 }
 
-fn put_count(n: u8, t: Tally) {
-    put_number(b"n ", n as u64);
-    put_tally(t);
+fn put_count(rt: &impl Print, n: u8, t: Tally) -> io::Result<()> {
+    put_number(rt, "n ", n as u64)?;
+    put_tally(rt, t)
 }
 
-fn put_all(t: Tally) {
-    io::write_all(STDOUT_FILENO, b"all");
-    put_tally(t);
+fn put_all(rt: &impl Print, t: Tally) -> io::Result<()> {
+    print!(rt; "all")?;
+    put_tally(rt, t)
 }
 
-fn main() {
+fn main(rt: HostRuntime) -> io::Result<()> {
     let mut all = Tally::empty();
     for n in 1..=MOST_PROCESSES {
         let t = over_count(n);
-        put_count(n, t);
+        put_count(&rt, n, t)?;
         all = all.plus(t);
     }
-    put_all(all);
+    put_all(&rt, all)
 }
