@@ -79,7 +79,8 @@ def rt_ci():
         stop("Mend the must-fail edits that `rt ci` calls bad above: the prover must see each, and refuse it.")
     if not public_calls.check(calls):
         stop("Give each call named above its theorem in crates/promises and its row in docs/PROMISES.md, or make it"
-             " `pub(crate)`; `rt lib` in crates/promises, and then `python3 tests/public_calls.py`, try it alone.")
+             " `pub(crate)`; `rt lib` in crates/promises and in crates/demands, and then `python3"
+             " tests/public_calls.py`, try it alone.")
     if not lister_program.check():
         stop("Mend crates/lister, or tests/cases/lister.txt where that lacks an input; `rt run` in crates/lister, and then"
              " `python3 tests/lister_program.py`, try it alone.")

@@ -11,10 +11,11 @@ mod round_trips;
 
 use printing::put;
 use reading::{next_byte, next_length, next_piece, put_not_a_case};
+use std::env::{Env, FillError};
 use std::fs::File;
 use std::io::{Read, Write};
 use std::rt::Files;
-use std::{env, io};
+use std::{io, str};
 
 // The answer to a case by its kind.
 fn put_answer(file: &mut impl Read, output: &mut impl Write) -> io::Result<()> {
@@ -45,16 +46,38 @@ fn put_cases(file: &mut impl Read, output: &mut impl Write) -> io::Result<()> {
     Ok(())
 }
 
-// The data file that an argument names. One that is not there ends the run.
-fn put_argument(rt: &impl Files, name: &str, output: &mut impl Write) -> io::Result<()> {
-    let mut file = File::open(rt, name)?;
-    put_cases(&mut file, output)
+// The data file that argument i names. Of one that is not there nothing can be read.
+fn put_argument(rt: &(impl Files + Env), i: usize, output: &mut impl Write) -> io::Result<()> {
+    let mut name = [0; 4096];
+    let length = match rt.arg(i, &mut name) {
+        Ok(length) => length,
+        Err(_) => 0,
+    };
+    let text = match str::from_utf8(&name[..length]) {
+        Ok(text) => text,
+        Err(_) => "",
+    };
+    match File::open(rt, text) {
+        Ok(mut file) => put_cases(&mut file, output),
+        Err(_) => put_cases(&mut io::empty(), output),
+    }
+}
+
+// Whether there is an argument i.
+fn is_given(rt: &impl Env, i: usize) -> bool {
+    match rt.arg(i, &mut [0; 1]) {
+        Err(FillError::NotPresent) => false,
+        _ => true,
+    }
 }
 
 fn main(rt: HostRuntime) -> io::Result<()> {
     let mut output = io::writer(&rt);
-    for name in env::args(&rt)?.skip(1) {
-        put_argument(&rt, name.as_str(), &mut output)?;
+    for i in 1..usize::MAX {
+        if !is_given(&rt, i) {
+            break;
+        }
+        put_argument(&rt, i, &mut output)?;
     }
     Ok(())
 }

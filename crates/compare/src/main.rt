@@ -60,26 +60,27 @@ fn over_count(n: u8) -> Tally
     single.plus(short).plus(long)
 }
 
-fn put_number(rt: &impl Print, word: &str, number: u64) -> io::Result<()> {
-    print!(rt; "{word}{number}")
+fn put_number(rt: &impl Print, word: &[u8], number: u64) -> io::Result<()> {
+    rt.write_all(word)?;
+    print!(rt; "{number}")
 }
 
 fn put_tally(rt: &impl Print, t: Tally) -> io::Result<()> {
-    put_number(rt, ": bytes ", t.bytes)?;
-    put_number(rt, " entries ", t.entries)?;
-    put_number(rt, " waits ", t.waits)?;
-    put_number(rt, " refused ", t.refused)?;
-    put_number(rt, " disagreements ", t.disagreements)?;
-    println!(rt)
+    put_number(rt, b": bytes ", t.bytes)?;
+    put_number(rt, b" entries ", t.entries)?;
+    put_number(rt, b" waits ", t.waits)?;
+    put_number(rt, b" refused ", t.refused)?;
+    put_number(rt, b" disagreements ", t.disagreements)?;
+    rt.write_all(b"\n")
 }
 
 fn put_count(rt: &impl Print, n: u8, t: Tally) -> io::Result<()> {
-    put_number(rt, "n ", n as u64)?;
+    put_number(rt, b"n ", n as u64)?;
     put_tally(rt, t)
 }
 
 fn put_all(rt: &impl Print, t: Tally) -> io::Result<()> {
-    print!(rt; "all")?;
+    rt.write_all(b"all")?;
     put_tally(rt, t)
 }
 

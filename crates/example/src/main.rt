@@ -15,8 +15,9 @@ fn number(byte: u8) -> usize {
 }
 
 // A line of a word and a number.
-fn put(rt: &impl Print, word: &str, number: usize) -> io::Result<()> {
-    println!(rt; "{word} {number}")
+fn put(rt: &impl Print, word: &[u8], number: usize) -> io::Result<()> {
+    rt.write_all(word)?;
+    println!(rt; "{number}")
 }
 
 // Runs a schedule, prints the process of each entry, and counts those of process 2. It answers what `run` answers, and promises so; where
@@ -30,12 +31,12 @@ fn run_and_put(rt: &impl Print, t: Table, schedule: &[u8], entries: &mut [u8]) -
     let r = machine::run(t, schedule, entries);
     let mut count: usize = 0;
     for k in 0..r.entries {
-        put(rt, "entry", number(entries[k]))?;
+        put(rt, b"entry ", number(entries[k]))?;
         if entries[k] == 2 {
             count += 1;
         }
     }
-    put(rt, "of process 2", count)?;
+    put(rt, b"of process 2 ", count)?;
     Ok(r)
 }
 
@@ -46,13 +47,17 @@ fn main(rt: HostRuntime) -> io::Result<()> {
     let schedule = [1, 2, 1, 2, 1, 2, 1, 2, 1, 2, 1, 2, 2, 2, 1, 1, 1];
     let mut entries = [0; 17];
     let first = run_and_put(&rt, start, &schedule, &mut entries)?;
-    put(&rt, "waited", first.waited)?;
-    put(&rt, "stop", number(first.stop))?;
+    put(&rt, b"waited ", first.waited)?;
+    put(&rt, b"stop ", number(first.stop))?;
     // 7 + 79n bytes hold the table; what is read back is the same table
     let mut form = [0; 165];
-    put(&rt, "stored", stored::write(first.table, &mut form).length)?;
+    put(
+        &rt,
+        b"stored ",
+        stored::write(first.table, &mut form).length,
+    )?;
     let restored = stored::read(&form).table;
     // the next run goes on from there: process 1 leaves, and process 2 enters
     let second = run_and_put(&rt, restored, &[1, 1, 2, 2], &mut entries)?;
-    put(&rt, "waiting", second.waiting)
+    put(&rt, b"waiting ", second.waiting)
 }

@@ -96,12 +96,15 @@ fn put_report(text: &mut [u8; LISTING_ROOM], t: Table, schedule: &[u8]) -> usize
     put_counts(text, last, r)
 }
 
+// The algorithm byte and the n byte, which every input has.
+const SHORTEST: usize = 2;
+
 // What the lister prints for its input, at the front of the text, whose other bytes keep their values. Answers how long it is.
 pub fn list(input: &[u8], text: &mut [u8; LISTING_ROOM]) -> usize
     ensures value { (result ≡ length (listing_of input.now)) × (result ≤ room) }
     ensures text_after { text.new ≡ sets text.old 0 (listing_of input.now) }
 {
-    if input.len() < 2 {
+    if input.len() < SHORTEST {
         return put_refused(text, refusal::FORM_TOO_SHORT);
     }
     let started = table::fresh(input[0], input[1]);

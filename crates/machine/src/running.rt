@@ -13,6 +13,9 @@ use crate::rows::{cleared, next_of, place_of, seen_in, with_core, with_read};
 use fields::{LINE_OF_ENTRY, SCHEDULE_LIMIT, SLOTS, Value, refusal};
 use table::Table;
 
+// The mark of a step that changed the table.
+const MOVED: u8 = 1;
+
 // 1 for a row that waits, at line 6 or 7, and 0 for another.
 fn waits_at(line: u8) -> usize
     ensures value { result ≡ cond (within 6 7 line) 1 0 }
@@ -126,7 +129,7 @@ pub(crate) fn course(start: Table, schedule: &[u8], entries: &mut [u8]) -> Ran
             6..=7 => {
                 let r = t.rows[p];
                 let w = waiting_line(t.algorithm, t.n, i, s, r.core);
-                if w.mark == 1 {
+                if w.mark == MOVED {
                     let row = with_core(w.core, r);
                     t.rows[p] = row;
                     moved += 1;

@@ -17,17 +17,17 @@ listed : {before piece after text : List ℕ} {next : ℕ} → Written before 0 
     → ((next ≡ length text) × (next ≤ room)) × (after ≡ sets before 0 text)
 listed w fits e = rw e ((omega (arith, w.place), fits), w.bytes)
 
-pub returns-then-input-lt2 : goal.returns-then-input-lt2
-returns-then-input-lt2 c =
+pub returns-then-input-lt-SHORTEST : goal.returns-then-input-lt-SHORTEST
+returns-then-input-lt-SHORTEST c =
     let r =
-    listed c.put_refused.ensures.written c.put_refused.ensures.upper_bound (listing_short _ c.if-input-lt2.true) in
+    listed c.put_refused.ensures.written c.put_refused.ensures.upper_bound (listing_short _ c.if-input-lt-SHORTEST.true) in
     record { value = r.0; text_after = r.1 }
 
 pub returns-then-stop-ne-NO_REFUSAL : goal.returns-then-stop-ne-NO_REFUSAL
 returns-then-stop-ne-NO_REFUSAL c =
     let r =
     listed (rw c.fresh-started.ensures at c.put_refused-then-stop-ne-NO_REFUSAL.ensures.written) c.put_refused-then-stop-ne-NO_REFUSAL.ensures.upper_bound
-    (listing_not_fresh _ c.if-input-lt2.false (rw c.fresh-started.ensures at c.if-stop-ne-NO_REFUSAL.true)) in
+    (listing_not_fresh _ c.if-input-lt-SHORTEST.false (rw c.fresh-started.ensures at c.if-stop-ne-NO_REFUSAL.true)) in
     record { value = r.0; text_after = r.1 }
 
 -- the part of the input after the first two bytes is the schedule
@@ -39,7 +39,7 @@ returns-then-schedule-gt-SCHEDULE_LIMIT c =
     let input = c.args.input.now in
     let r =
     listed c.put_refused-then-schedule-gt-SCHEDULE_LIMIT.ensures.written c.put_refused-then-schedule-gt-SCHEDULE_LIMIT.ensures.upper_bound
-    (listing_long _ c.if-input-lt2.false
+    (listing_long _ c.if-input-lt-SHORTEST.false
     (rw c.fresh-started.ensures at c.if-stop-ne-NO_REFUSAL.false)
     (rw (its_schedule input) at c.if-schedule-gt-SCHEDULE_LIMIT.true)) in
     record { value = r.0; text_after = r.1 }
@@ -53,7 +53,7 @@ returns c =
     let input = c.args.input.now in
     let r =
     listed (rw (c.fresh-started.ensures, its_schedule input) at c.put_report.ensures.written) c.put_report.ensures.upper_bound
-    (listing_run input c.if-input-lt2.false
+    (listing_run input c.if-input-lt-SHORTEST.false
     (rw c.fresh-started.ensures at c.if-stop-ne-NO_REFUSAL.false)
     (rw (its_schedule input) at c.if-schedule-gt-SCHEDULE_LIMIT.false))
     in

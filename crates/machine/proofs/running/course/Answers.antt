@@ -170,14 +170,14 @@ waiting_line-w-requires c =
     let line = line_6_or_7 (goal.at.waiting_line-w-requires c).In-6-to-7 in
     ((process (goal.at.waiting_line-w-requires c).After-place_of-p).1, line.0, line.1)
 
-pub offset_bounds-t-p-then-w-eq1 : goal.offset_bounds-t-p-then-w-eq1
-offset_bounds-t-p-then-w-eq1 c = omega (arith, (process (goal.at.offset_bounds-t-p-then-w-eq1 c).After-place_of-p).0)
+pub offset_bounds-t-p-then-w-eq-MOVED : goal.offset_bounds-t-p-then-w-eq-MOVED
+offset_bounds-t-p-then-w-eq-MOVED c = omega (arith, (process (goal.at.offset_bounds-t-p-then-w-eq-MOVED c).After-place_of-p).0)
 
-pub bounds-t-p-then-w-eq1 : goal.bounds-t-p-then-w-eq1
-bounds-t-p-then-w-eq1 c = (process (goal.at.bounds-t-p-then-w-eq1 c).After-place_of-p).0
+pub bounds-t-p-then-w-eq-MOVED : goal.bounds-t-p-then-w-eq-MOVED
+bounds-t-p-then-w-eq-MOVED c = (process (goal.at.bounds-t-p-then-w-eq-MOVED c).After-place_of-p).0
 
-pub overflow_add-moved-then-w-eq1 : goal.overflow_add-moved-then-w-eq1
-overflow_add-moved-then-w-eq1 c = one_more (goal.at.overflow_add-moved-then-w-eq1 c).After-seen_in-s
+pub overflow_add-moved-then-w-eq-MOVED : goal.overflow_add-moved-then-w-eq-MOVED
+overflow_add-moved-then-w-eq-MOVED c = one_more (goal.at.overflow_add-moved-then-w-eq-MOVED c).After-seen_in-s
 
 -- Every other line, with the entry among them.
 pub offset_bounds-t-p-in_default : goal.offset_bounds-t-p-in_default
@@ -237,24 +237,24 @@ loop-k-preserved-else-w-gt-NO_REFUSAL c =
     (byte_passed (at_byte (goal.at.loop-k-preserved-else-w-gt-NO_REFUSAL c).After-seen_in-s) (omega (arith, at_4))
     (takes_token _ _ _ _ _ at_4 (line_4_did (goal.at.loop-k-preserved-else-w-gt-NO_REFUSAL c).After-line_4-w (process (goal.at.loop-k-preserved-else-w-gt-NO_REFUSAL c).After-place_of-p).1.count) (process (goal.at.loop-k-preserved-else-w-gt-NO_REFUSAL c).After-place_of-p).1 (omega (arith, c.if-w-gt-NO_REFUSAL.false))))
 
-pub loop-k-smaller-then-w-eq1 : goal.loop-k-smaller-then-w-eq1
-loop-k-smaller-then-w-eq1 c = omega (arith, (at_byte (goal.at.loop-k-smaller-then-w-eq1 c).After-seen_in-s).more)
+pub loop-k-smaller-then-w-eq-MOVED : goal.loop-k-smaller-then-w-eq-MOVED
+loop-k-smaller-then-w-eq-MOVED c = omega (arith, (at_byte (goal.at.loop-k-smaller-then-w-eq-MOVED c).After-seen_in-s).more)
 
-pub loop-k-preserved-then-w-eq1 : goal.loop-k-preserved-then-w-eq1
-loop-k-preserved-then-w-eq1 c =
-    let at = line_6_or_7 (goal.at.loop-k-preserved-then-w-eq1 c).In-6-to-7 in
+pub loop-k-preserved-then-w-eq-MOVED : goal.loop-k-preserved-then-w-eq-MOVED
+loop-k-preserved-then-w-eq-MOVED c =
+    let at = line_6_or_7 (goal.at.loop-k-preserved-then-w-eq-MOVED c).In-6-to-7 in
     rw c.with_core-row.ensures
-    (byte_passed (at_byte (goal.at.loop-k-preserved-then-w-eq1 c).After-seen_in-s) (omega (arith, at))
-    (takes_6_or_7 _ _ _ _ _ (omega (arith, at)) (omega (arith, at)) c.waiting_line-w.ensures (omega (arith, at)) c.if-w-eq1.true))
+    (byte_passed (at_byte (goal.at.loop-k-preserved-then-w-eq-MOVED c).After-seen_in-s) (omega (arith, at))
+    (takes_6_or_7 _ _ _ _ _ (omega (arith, at)) (omega (arith, at)) c.waiting_line-w.ensures (omega (arith, at)) c.if-w-eq-MOVED.true))
 
-pub loop-k-smaller-else-w-eq1 : goal.loop-k-smaller-else-w-eq1
-loop-k-smaller-else-w-eq1 c = omega (arith, (at_byte (goal.at.loop-k-smaller-else-w-eq1 c).After-seen_in-s).more)
+pub loop-k-smaller-else-w-eq-MOVED : goal.loop-k-smaller-else-w-eq-MOVED
+loop-k-smaller-else-w-eq-MOVED c = omega (arith, (at_byte (goal.at.loop-k-smaller-else-w-eq-MOVED c).After-seen_in-s).more)
 
-pub loop-k-preserved-else-w-eq1 : goal.loop-k-preserved-else-w-eq1
-loop-k-preserved-else-w-eq1 c =
-    let at = line_6_or_7 (goal.at.loop-k-preserved-else-w-eq1 c).In-6-to-7 in
-    byte_waits (at_byte (goal.at.loop-k-preserved-else-w-eq1 c).After-seen_in-s) (omega (arith, at))
-    (takes_still _ _ _ _ _ (omega (arith, at)) (omega (arith, at)) c.waiting_line-w.ensures (omega (arith, at)) c.if-w-eq1.false)
+pub loop-k-preserved-else-w-eq-MOVED : goal.loop-k-preserved-else-w-eq-MOVED
+loop-k-preserved-else-w-eq-MOVED c =
+    let at = line_6_or_7 (goal.at.loop-k-preserved-else-w-eq-MOVED c).In-6-to-7 in
+    byte_waits (at_byte (goal.at.loop-k-preserved-else-w-eq-MOVED c).After-seen_in-s) (omega (arith, at))
+    (takes_still _ _ _ _ _ (omega (arith, at)) (omega (arith, at)) c.waiting_line-w.ensures (omega (arith, at)) c.if-w-eq-MOVED.false)
 
 pub loop-k-smaller : goal.loop-k-smaller
 loop-k-smaller c = omega (arith, (at_byte (goal.at.loop-k-smaller c).After-seen_in-s).more)
