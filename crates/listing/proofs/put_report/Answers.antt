@@ -79,32 +79,42 @@ bakery_fits c =
 
 pub slice_bounds-entries-end : goal.slice_bounds-entries-end
 slice_bounds-entries-end c =
-    let front = entered_in (its_course (goal.at.slice_bounds-entries-end c).After-run-r).turns in
+    let run = (goal.at.slice_bounds-entries-end c).After-run-r in
+    let front = entered_in (its_course run).turns in
     omega (
       arith,
-      counted (goal.at.slice_bounds-entries-end c).After-run-r,
-      ap (λ (l : List ℕ). length l) (written (goal.at.slice_bounds-entries-end c).After-run-r),
-      processes_count is_entry (its_course (goal.at.slice_bounds-entries-end c).After-run-r).turns,
+      counted run,
+      ap (λ (l : List ℕ). length l) (written run),
+      processes_count is_entry (its_course run).turns,
       length-append front (drop (length front) (replicate schedule_limit 0)),
     )
 
 pub slice_bounds-put_entries-end : goal.slice_bounds-put_entries-end
 slice_bounds-put_entries-end c =
-    counted (goal.at.slice_bounds-put_entries-end c).After-run-r ∙ sym (processes_count is_entry (its_course (goal.at.slice_bounds-put_entries-end c).After-run-r).turns) ∙ sym (ap (λ (l : List ℕ). length l) (entered (goal.at.slice_bounds-put_entries-end c).After-run-r))
+    let run = (goal.at.slice_bounds-put_entries-end c).After-run-r in
+    counted run
+    ∙ sym (processes_count is_entry (its_course run).turns)
+    ∙ sym (ap (λ (l : List ℕ). length l) (entered run))
 
 pub put_entries-last-requires : goal.put_entries-last-requires
 put_entries-last-requires c =
-    omega (arith, bakery_fits (goal.at.put_entries-last-requires c).After-put_bakery-next, lines_fit (goal.at.put_entries-last-requires c).After-run-r)
+    let path = goal.at.put_entries-last-requires c in
+    omega (arith, bakery_fits path.After-put_bakery-next, lines_fit path.After-run-r)
 
 pub put_counts-requires : goal.put_counts-requires
 put_counts-requires c =
-    omega (arith, c.put_entries-last.ensures.place, bakery_fits (goal.at.put_counts-requires c).After-put_bakery-next, lines_fit (goal.at.put_counts-requires c).After-run-r, counts_fit (goal.at.put_counts-requires c).After-run-r)
+    let path = goal.at.put_counts-requires c in
+    let run = path.After-run-r in
+    omega (arith, c.put_entries-last.ensures.place, bakery_fits path.After-put_bakery-next, lines_fit run, counts_fit run)
 
 pub returns : goal.returns
 unfolding report
 returns c =
-    let front = and_then c.put_bakery-next.ensures (rw (entered (goal.at.returns c).After-run-r) at c.put_entries-last.ensures) in
+    let path = goal.at.returns c in
+    let run = path.After-run-r in
+    let front = and_then c.put_bakery-next.ensures (rw (entered run) at c.put_entries-last.ensures) in
+    let bakery = bakery_fits path.After-put_bakery-next in
     record {
-      written = and_then front (rw (answered (goal.at.returns c).After-run-r) at c.put_counts.ensures);
-      upper_bound = omega (arith, c.put_counts.ensures.place, c.put_entries-last.ensures.place, bakery_fits (goal.at.returns c).After-put_bakery-next, lines_fit (goal.at.returns c).After-run-r, counts_fit (goal.at.returns c).After-run-r);
+      written = and_then front (rw (answered run) at c.put_counts.ensures);
+      upper_bound = omega (arith, c.put_counts.ensures.place, c.put_entries-last.ensures.place, bakery, lines_fit run, counts_fit run);
     }

@@ -140,8 +140,9 @@ shape_of-entries-then-w-gt-NO_REFUSAL c = (at_byte (goal.at.shape_of-entries-the
 
 pub returns-then-w-gt-NO_REFUSAL : goal.returns-then-w-gt-NO_REFUSAL
 returns-then-w-gt-NO_REFUSAL c =
-    let stop = stop_of_4 _ _ _ _ _ c.in-4.is (line_4_did (goal.at.returns-then-w-gt-NO_REFUSAL c).After-line_4-w (process (goal.at.returns-then-w-gt-NO_REFUSAL c).After-place_of-p).1.count) in
-    let r = byte_stops (at_byte (goal.at.returns-then-w-gt-NO_REFUSAL c).After-seen_in-s) stop (omega (arith, c.if-w-gt-NO_REFUSAL.true)) in
+    let path = goal.at.returns-then-w-gt-NO_REFUSAL c in
+    let stop = stop_of_4 _ _ _ _ _ c.in-4.is (line_4_did path.After-line_4-w (process path.After-place_of-p).1.count) in
+    let r = byte_stops (at_byte path.After-seen_in-s) stop (omega (arith, c.if-w-gt-NO_REFUSAL.true)) in
     record { value = answered r c.ended-then-w-gt-NO_REFUSAL.ensures; entries_after = r.front }
 
 pub offset_bounds-t-p-in-4-2 : goal.offset_bounds-t-p-in-4-2
@@ -167,8 +168,9 @@ line_6_or_7 c = (omega arith, omega arith)
 
 pub waiting_line-w-requires : goal.waiting_line-w-requires
 waiting_line-w-requires c =
-    let line = line_6_or_7 (goal.at.waiting_line-w-requires c).In-6-to-7 in
-    ((process (goal.at.waiting_line-w-requires c).After-place_of-p).1, line.0, line.1)
+    let path = goal.at.waiting_line-w-requires c in
+    let line = line_6_or_7 path.In-6-to-7 in
+    ((process path.After-place_of-p).1, line.0, line.1)
 
 pub offset_bounds-t-p-then-w-eq-MOVED : goal.offset_bounds-t-p-then-w-eq-MOVED
 offset_bounds-t-p-then-w-eq-MOVED c = omega (arith, (process (goal.at.offset_bounds-t-p-then-w-eq-MOVED c).After-place_of-p).0)
@@ -222,29 +224,33 @@ loop-k-smaller-in-2 c = omega (arith, (at_byte (goal.at.loop-k-smaller-in-2 c).A
 
 pub loop-k-preserved-in-2 : goal.loop-k-preserved-in-2
 loop-k-preserved-in-2 c =
+    let path = goal.at.loop-k-preserved-in-2 c in
     let at_2 = c.in-2.is in
     rw c.with_read-row.ensures
-    (byte_passed (at_byte (goal.at.loop-k-preserved-in-2 c).After-seen_in-s) (omega (arith, at_2))
-    (takes_read _ _ _ _ _ at_2 c.line_2-w.ensures (process (goal.at.loop-k-preserved-in-2 c).After-place_of-p).1))
+    (byte_passed (at_byte path.After-seen_in-s) (omega (arith, at_2))
+    (takes_read _ _ _ _ _ at_2 c.line_2-w.ensures (process path.After-place_of-p).1))
 
 pub loop-k-smaller-else-w-gt-NO_REFUSAL : goal.loop-k-smaller-else-w-gt-NO_REFUSAL
 loop-k-smaller-else-w-gt-NO_REFUSAL c = omega (arith, (at_byte (goal.at.loop-k-smaller-else-w-gt-NO_REFUSAL c).After-seen_in-s).more)
 
 pub loop-k-preserved-else-w-gt-NO_REFUSAL : goal.loop-k-preserved-else-w-gt-NO_REFUSAL
 loop-k-preserved-else-w-gt-NO_REFUSAL c =
+    let path = goal.at.loop-k-preserved-else-w-gt-NO_REFUSAL c in
+    let own = (process path.After-place_of-p).1 in
     let at_4 = c.in-4.is in
     rw c.cleared-row.ensures
-    (byte_passed (at_byte (goal.at.loop-k-preserved-else-w-gt-NO_REFUSAL c).After-seen_in-s) (omega (arith, at_4))
-    (takes_token _ _ _ _ _ at_4 (line_4_did (goal.at.loop-k-preserved-else-w-gt-NO_REFUSAL c).After-line_4-w (process (goal.at.loop-k-preserved-else-w-gt-NO_REFUSAL c).After-place_of-p).1.count) (process (goal.at.loop-k-preserved-else-w-gt-NO_REFUSAL c).After-place_of-p).1 (omega (arith, c.if-w-gt-NO_REFUSAL.false))))
+    (byte_passed (at_byte path.After-seen_in-s) (omega (arith, at_4))
+    (takes_token _ _ _ _ _ at_4 (line_4_did path.After-line_4-w own.count) own (omega (arith, c.if-w-gt-NO_REFUSAL.false))))
 
 pub loop-k-smaller-then-w-eq-MOVED : goal.loop-k-smaller-then-w-eq-MOVED
 loop-k-smaller-then-w-eq-MOVED c = omega (arith, (at_byte (goal.at.loop-k-smaller-then-w-eq-MOVED c).After-seen_in-s).more)
 
 pub loop-k-preserved-then-w-eq-MOVED : goal.loop-k-preserved-then-w-eq-MOVED
 loop-k-preserved-then-w-eq-MOVED c =
-    let at = line_6_or_7 (goal.at.loop-k-preserved-then-w-eq-MOVED c).In-6-to-7 in
+    let path = goal.at.loop-k-preserved-then-w-eq-MOVED c in
+    let at = line_6_or_7 path.In-6-to-7 in
     rw c.with_core-row.ensures
-    (byte_passed (at_byte (goal.at.loop-k-preserved-then-w-eq-MOVED c).After-seen_in-s) (omega (arith, at))
+    (byte_passed (at_byte path.After-seen_in-s) (omega (arith, at))
     (takes_6_or_7 _ _ _ _ _ (omega (arith, at)) (omega (arith, at)) c.waiting_line-w.ensures (omega (arith, at)) c.if-w-eq-MOVED.true))
 
 pub loop-k-smaller-else-w-eq-MOVED : goal.loop-k-smaller-else-w-eq-MOVED
@@ -252,8 +258,9 @@ loop-k-smaller-else-w-eq-MOVED c = omega (arith, (at_byte (goal.at.loop-k-smalle
 
 pub loop-k-preserved-else-w-eq-MOVED : goal.loop-k-preserved-else-w-eq-MOVED
 loop-k-preserved-else-w-eq-MOVED c =
-    let at = line_6_or_7 (goal.at.loop-k-preserved-else-w-eq-MOVED c).In-6-to-7 in
-    byte_waits (at_byte (goal.at.loop-k-preserved-else-w-eq-MOVED c).After-seen_in-s) (omega (arith, at))
+    let path = goal.at.loop-k-preserved-else-w-eq-MOVED c in
+    let at = line_6_or_7 path.In-6-to-7 in
+    byte_waits (at_byte path.After-seen_in-s) (omega (arith, at))
     (takes_still _ _ _ _ _ (omega (arith, at)) (omega (arith, at)) c.waiting_line-w.ensures (omega (arith, at)) c.if-w-eq-MOVED.false)
 
 pub loop-k-smaller : goal.loop-k-smaller
@@ -261,10 +268,12 @@ loop-k-smaller c = omega (arith, (at_byte (goal.at.loop-k-smaller c).After-seen_
 
 pub loop-k-preserved : goal.loop-k-preserved
 loop-k-preserved c =
-    let off = is_other (goal.at.loop-k-preserved c).In_default in
-    rw (c.with_core-row-in_default.ensures, c.note_entry-entered.ensures.value, c.note_entry-entered.ensures.entries_after, to_z-of_z (left_x_fits (goal.at.loop-k-preserved c).After-other_line-w))
-    (byte_taken (at_byte (goal.at.loop-k-preserved c).After-seen_in-s)
-    (takes_other _ _ _ _ _ off.not_2 off.not_4 (c.other_line-w.ensures _) (process (goal.at.loop-k-preserved c).After-place_of-p).1
+    let path = goal.at.loop-k-preserved c in
+    let off = is_other path.In_default in
+    let note = c.note_entry-entered.ensures in
+    rw (c.with_core-row-in_default.ensures, note.value, note.entries_after, to_z-of_z (left_x_fits path.After-other_line-w))
+    (byte_taken (at_byte path.After-seen_in-s)
+    (takes_other _ _ _ _ _ off.not_2 off.not_4 (c.other_line-w.ensures _) (process path.After-place_of-p).1
     off.not_6 off.not_7))
 
 pub ended-requires-2 : goal.ended-requires-2

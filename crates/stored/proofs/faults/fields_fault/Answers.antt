@@ -11,7 +11,6 @@ returns-then-not-line_ok c =
       failed c.line_ok.ensures c.if-not-line_ok.true,
     )
 
--- After each test that is passed the first k checks hold, so that the others decide.
 pub returns-then-not-index_ok : goal.returns-then-not-index_ok
 unfolding first_fault fields_checks
 returns-then-not-index_ok c =

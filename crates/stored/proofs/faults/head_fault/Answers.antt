@@ -8,7 +8,6 @@ pub returns-then-form-ne-HEAD_KIND : goal.returns-then-form-ne-HEAD_KIND
 unfolding first_fault head_checks
 returns-then-form-ne-HEAD_KIND c = rw (ne_eqb _ _ c.if-form-ne-HEAD_KIND.true)
 
--- After each test that is passed the first k checks hold, so that the others decide.
 pub returns-then-not-algorithm_ok : goal.returns-then-not-algorithm_ok
 unfolding first_fault head_checks
 returns-then-not-algorithm_ok c =

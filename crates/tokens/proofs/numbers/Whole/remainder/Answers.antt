@@ -41,13 +41,17 @@ pub plus-requires : goal.plus-requires
 plus-requires c = (raised (goal.at.plus-requires c).Then-is_negative).sfits
 
 pub byte-requires : goal.byte-requires
-byte-requires c = rw c.plus.ensures ((raised (goal.at.byte-requires c).Then-is_negative).nonneg, (raised (goal.at.byte-requires c).Then-is_negative).fits)
+byte-requires c =
+    let sum = raised (goal.at.byte-requires c).Then-is_negative in
+    rw c.plus.ensures (sum.nonneg, sum.fits)
 
 pub returns-then-is_negative : goal.returns-then-is_negative
 returns-then-is_negative c = c.byte.ensures ∙ ap nat_abs c.plus.ensures ∙ (raised (goal.at.returns-then-is_negative c).Then-is_negative).value
 
 pub byte-requires-2 : goal.byte-requires-2
-byte-requires-2 c = ((kept (goal.at.byte-requires-2 c).Else-is_negative).nonneg, (kept (goal.at.byte-requires-2 c).Else-is_negative).fits)
+byte-requires-2 c =
+    let rest = kept (goal.at.byte-requires-2 c).Else-is_negative in
+    (rest.nonneg, rest.fits)
 
 pub returns : goal.returns
 returns c = c.byte-2.ensures ∙ (kept (goal.at.returns c).Else-is_negative).value
