@@ -46,7 +46,8 @@ fn put_cases(file: &mut impl Read, output: &mut impl Write) -> io::Result<()> {
     Ok(())
 }
 
-// The data file that argument i names. Of one that is not there nothing can be read.
+// The data file that argument i names. Of one that is not there nothing can be read. std takes a name as text, so an argument that is none,
+// or is too long, names no file.
 fn put_argument(rt: &(impl Files + Env), i: usize, output: &mut impl Write) -> io::Result<()> {
     let mut name = [0; 4096];
     let length = match rt.arg(i, &mut name) {
