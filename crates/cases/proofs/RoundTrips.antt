@@ -2,11 +2,10 @@
 use Prim.Native.Nat.{ℕ}
 use mathlib.Core.Path.{◌≡◌, ◌∙◌}
 use mathlib.Core.List.{List}
-use borrow.Author.Tests.{eqb-true}
-use lib.Dec.{eqb}
 use lib.ListN.{take}
 use Rattle.laws.proofs.Tests.{by_test}
-use Rattle.fields.specs.Refusals.{no_refusal}
+use Rattle.fields.specs.Refusals.{is_accepted}
+use Rattle.fields.proofs.Stops.{accepted_none}
 use Rattle.table.specs.Sized.{Sized}
 use Rattle.table.specs.declared.Table.{Table}
 use Rattle.stored.specs.Writing.{write_of, buffer_of}
@@ -20,6 +19,6 @@ module _ (t : Table) (buffer : List ℕ) where
   pub written_read : Sized t → read_of (take (write_of t buffer).length (buffer_of t buffer)) ≡ written_and_read t buffer
   unfolding write_of written_and_read
   written_read sized =
-      by_test (λ (r : Restored). read_of (take (write_of t buffer).length (buffer_of t buffer)) ≡ r) (eqb (write_of t buffer).stop no_refusal)
-      (λ accepted. written_and_read_lem t sized buffer (eqb-true _ _ accepted) ∙ rw accepted)
+      by_test (λ (r : Restored). read_of (take (write_of t buffer).length (buffer_of t buffer)) ≡ r) (is_accepted (write_of t buffer).stop)
+      (λ accepted. written_and_read_lem t sized buffer (accepted_none _ accepted) ∙ rw accepted)
       (λ refused. rw refused)

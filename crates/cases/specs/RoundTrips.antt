@@ -1,8 +1,8 @@
 -- Demand 2 of the order, of the stored form, said of two calls one after the other: "A well-formed table written and read back is the same
 -- table; an accepted stored form written again is the same bytes."
-use Rattle.std.specs.Prelude.{ℕ, ◌≤◌, ◌≡◌, cond, List, [], eqb, length}
+use Rattle.std.specs.Prelude.{ℕ, ◌≤◌, ◌≡◌, cond, List, [], length}
 use Rattle.laws.specs.Lent.{in_front}
-use Rattle.fields.specs.Refusals.{no_refusal}
+use Rattle.fields.specs.Refusals.{no_refusal, is_accepted}
 use Rattle.table.specs.declared.Table.{Table}
 use Rattle.stored.specs.Form.{form_length}
 use Rattle.stored.specs.Writing.{write_of}
@@ -13,7 +13,7 @@ use Rattle.stored.specs.declared.Wrote.{Wrote}
 -- what is read of a table that is written: that table where the write is accepted, and else what a read of no bytes answers
 unfoldable pub written_and_read : Table → List ℕ → Restored
 written_and_read t buffer =
-    cond (eqb (write_of t buffer).stop no_refusal)
+    cond (is_accepted (write_of t buffer).stop)
     (record { table = t; stop = no_refusal; place = form_length t.n })
     (read_of [])
 

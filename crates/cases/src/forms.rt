@@ -1,56 +1,55 @@
 // The cases of the stored form: a form that is read, and a table that is written.
 use crate::lent::{part, put_lent, untouched};
-use crate::printing::{put_table, put_two};
-use crate::reading::{next_length, next_piece, next_table};
+use crate::printing::put_table;
+use crate::reading::Cases;
 use crate::round_trips::{read_and_written, written_and_read};
-use fields::refusal;
+use fields::stop_number;
 use std::io;
 use std::io::{Read, Write};
 use stored::Restored;
-use table::Table;
 
-fn put_restored(output: &mut impl Write, r: Restored) -> io::Result<()> {
-    put_two(output, b"stop 0 place 1\n", r.stop as usize, r.place)?;
-    put_table(output, r.table)
+fn put_restored(output: &mut impl Write, restored: &Restored) -> io::Result<()> {
+    writeln!(
+        output,
+        "stop {} place {}",
+        stop_number(restored.stop),
+        restored.place
+    )?;
+    put_table(output, &restored.table)
 }
 
-// How many of some bytes are as they were, all or none.
-fn same_of(now: &[u8], before: &[u8]) -> usize {
-    if now == before {
-        return before.len();
-    }
-    0
-}
-
-// A form read and written again, to a buffer that is as long: how many of its bytes are written as they were.
+// A form read and written again, to a buffer that is as long: how many of its bytes are written as they were, all or none.
 fn put_again(output: &mut impl Write, form: &[u8]) -> io::Result<()> {
     let mut buffer = untouched();
     let lent = part(&mut buffer, form.len());
     read_and_written(form, lent);
-    put_two(output, b"again 0 of 1\n", same_of(lent, form), form.len())
+    let same = if *lent == *form { form.len() } else { 0 };
+    writeln!(output, "again {same} of {}", form.len())
 }
 
-pub(crate) fn put_read(file: &mut impl Read, output: &mut impl Write) -> io::Result<()> {
+pub(crate) fn put_read(cases: &mut Cases<impl Read, impl Write>) -> io::Result<()> {
     let mut space = [0; 65536];
-    let form = next_piece(file, output, &mut space)?;
-    let r = stored::read(form);
-    put_restored(output, r)?;
-    if r.stop == refusal::NO_REFUSAL {
-        put_again(output, form)?;
+    let form = cases.next_piece(&mut space)?;
+    let restored = stored::read(form);
+    put_restored(cases.output, &restored)?;
+    if restored.stop.is_none() {
+        put_again(cases.output, form)?;
     }
     Ok(())
 }
 
-fn put_wrote(output: &mut impl Write, t: Table, lent: &mut [u8]) -> io::Result<()> {
-    let w = stored::write(t, lent);
-    put_two(output, b"length 0 stop 1\nbytes", w.length, w.stop as usize)?;
-    put_lent(output, lent, w.length)?;
-    put_restored(output, written_and_read(t, lent))
-}
-
-pub(crate) fn put_write(file: &mut impl Read, output: &mut impl Write) -> io::Result<()> {
-    let t = next_table(file, output)?;
+pub(crate) fn put_write(cases: &mut Cases<impl Read, impl Write>) -> io::Result<()> {
+    let table = cases.next_table()?;
     let mut buffer = untouched();
-    let lent = part(&mut buffer, next_length(file, output)?);
-    put_wrote(output, t, lent)
+    let lent = part(&mut buffer, cases.next_length()?);
+    let wrote = stored::write(table, lent);
+    writeln!(
+        cases.output,
+        "length {} stop {}",
+        wrote.length,
+        stop_number(wrote.stop)
+    )?;
+    write!(cases.output, "bytes")?;
+    put_lent(cases.output, lent, wrote.length)?;
+    put_restored(cases.output, &written_and_read(table, lent))
 }

@@ -9,39 +9,38 @@ mod printing;
 mod reading;
 mod round_trips;
 
-use printing::put;
-use reading::{next_byte, next_length, next_piece, put_not_a_case};
+use reading::Cases;
 use std::env::{Env, FillError};
 use std::fs::File;
 use std::io::{Read, Write};
 use std::rt::Files;
 use std::{io, str};
 
-// The answer to a case by its kind.
-fn put_answer(file: &mut impl Read, output: &mut impl Write) -> io::Result<()> {
-    let kind = next_byte(file, output)?;
-    match kind {
-        b'F' => answers::put_fresh(file, output),
-        b'S' => answers::put_step(file, output),
-        b'R' => answers::put_run(file, output),
-        b'D' => forms::put_read(file, output),
-        b'W' => forms::put_write(file, output),
-        _ => put_not_a_case(output),
+// The answer to a case by its kind, a letter. Each letter stands once, beside its call: an enum of the kinds would need a second match.
+fn put_answer(cases: &mut Cases<impl Read, impl Write>) -> io::Result<()> {
+    match cases.next_byte()? {
+        b'F' => answers::put_fresh(cases),
+        b'S' => answers::put_step(cases),
+        b'R' => answers::put_run(cases),
+        b'D' => forms::put_read(cases),
+        b'W' => forms::put_write(cases),
+        _ => cases.put_not_a_case(),
     }
 }
 
 // The line above a case's answer.
-fn put_heading(file: &mut impl Read, output: &mut impl Write) -> io::Result<()> {
+fn put_heading(cases: &mut Cases<impl Read, impl Write>) -> io::Result<()> {
     let mut space = [0; 4096];
-    let heading = next_piece(file, output, &mut space)?;
-    put(output, heading)
+    let heading = cases.next_piece(&mut space)?;
+    cases.output.write_all(heading)
 }
 
 // The cases of a data file, which opens with their number.
 fn put_cases(file: &mut impl Read, output: &mut impl Write) -> io::Result<()> {
-    for _ in 0..next_length(file, output)? {
-        put_heading(file, output)?;
-        put_answer(file, output)?;
+    let mut cases = Cases { file, output };
+    for _ in 0..cases.next_length()? {
+        put_heading(&mut cases)?;
+        put_answer(&mut cases)?;
     }
     Ok(())
 }
@@ -50,14 +49,8 @@ fn put_cases(file: &mut impl Read, output: &mut impl Write) -> io::Result<()> {
 // or is too long, names no file.
 fn put_argument(rt: &(impl Files + Env), i: usize, output: &mut impl Write) -> io::Result<()> {
     let mut name = [0; 4096];
-    let length = match rt.arg(i, &mut name) {
-        Ok(length) => length,
-        Err(_) => 0,
-    };
-    let text = match str::from_utf8(&name[..length]) {
-        Ok(text) => text,
-        Err(_) => "",
-    };
+    let length = rt.arg(i, &mut name).unwrap_or(0);
+    let text = str::from_utf8(&name[..length]).unwrap_or("");
     match File::open(rt, text) {
         Ok(mut file) => put_cases(&mut file, output),
         Err(_) => put_cases(&mut io::empty(), output),
@@ -66,18 +59,12 @@ fn put_argument(rt: &(impl Files + Env), i: usize, output: &mut impl Write) -> i
 
 // Whether there is an argument i.
 fn is_given(rt: &impl Env, i: usize) -> bool {
-    match rt.arg(i, &mut [0; 1]) {
-        Err(FillError::NotPresent) => false,
-        _ => true,
-    }
+    !matches!(rt.arg(i, &mut [0; 1]), Err(FillError::NotPresent))
 }
 
 fn main(rt: HostRuntime) -> io::Result<()> {
     let mut output = io::writer(&rt);
-    for i in 1..usize::MAX {
-        if !is_given(&rt, i) {
-            break;
-        }
+    for i in (1..usize::MAX).take_while(|&i| is_given(&rt, i)) {
         put_argument(&rt, i, &mut output)?;
     }
     Ok(())

@@ -1,106 +1,79 @@
 // What a data file holds, taken from it piece by piece. A table is there as plain fields and not in the stored form, so that one that is not
 // well formed can be a case.
-ghost use Rattle.std.specs.Prelude.{◌<◌, IfOk};
-
 use crate::lent::part;
-use crate::printing::put;
-use fields::{NONE, SLOTS};
-use std::io;
 use std::io::{ErrorKind, Read, Write};
+use std::{array, io};
 use table::{Core, Row, Table};
 
-pub(crate) fn put_not_a_case(output: &mut impl Write) -> io::Result<()> {
-    put(output, b"not a case\n")
+// The cases of a data file, and the output for what the library answers to them. Where the file ends too soon the output says so, and what
+// is missing counts as zeros.
+#[derive(Drop)]
+pub(crate) struct Cases<'a, R, W> {
+    pub(crate) file: &'a mut R,
+    pub(crate) output: &'a mut W,
 }
 
-// Fills a piece with the next bytes of the file. Where the file ends too soon the output says so.
-fn take(file: &mut impl Read, output: &mut impl Write, piece: &mut [u8]) -> io::Result<()> {
-    match file.read_exact(piece) {
-        Err(e) if e.kind() == ErrorKind::UnexpectedEof => put_not_a_case(output),
-        taken => taken,
+impl<R: Read, W: Write> Cases<'_, R, W> {
+    pub(crate) fn put_not_a_case(&mut self) -> io::Result<()> {
+        self.output.write_all(b"not a case\n")
     }
-}
 
-pub(crate) fn next_byte(file: &mut impl Read, output: &mut impl Write) -> io::Result<u8> {
-    let mut piece = [0u8; 1];
-    take(file, output, &mut piece)?;
-    Ok(piece[0])
-}
-
-// A number of two bytes, the lower one first.
-pub(crate) fn next_length(file: &mut impl Read, output: &mut impl Write) -> io::Result<usize>
-    ensures { IfOk result (λ length. length < 65536) }
-{
-    let low = next_byte(file, output)? as usize;
-    let high = next_byte(file, output)? as usize;
-    Ok(low + 256 * high)
-}
-
-// A number of four bytes, the lowest one first. Two's complement: the upper half of the bits stands for the numbers below zero.
-fn next_number(file: &mut impl Read, output: &mut impl Write) -> io::Result<i32> {
-    let low = next_length(file, output)?;
-    let bits = low + 65536 * next_length(file, output)?;
-    if bits < 2147483648 {
-        Ok(bits as i32)
-    } else {
-        Ok(!((4294967295 - bits) as i32))
+    // Fills a piece with the next bytes of the file.
+    fn take(&mut self, piece: &mut [u8]) -> io::Result<()> {
+        match self.file.read_exact(piece) {
+            Err(e) if e.kind() == ErrorKind::UnexpectedEof => self.put_not_a_case(),
+            taken => taken,
+        }
     }
-}
 
-// Some bytes that have their length before them.
-pub(crate) fn next_piece<'a>(
-    file: &mut impl Read,
-    output: &mut impl Write,
-    space: &'a mut [u8],
-) -> io::Result<&'a [u8]> {
-    let piece = part(space, next_length(file, output)?);
-    take(file, output, piece)?;
-    Ok(piece)
-}
-
-fn next_cells(file: &mut impl Read, output: &mut impl Write) -> io::Result<[i32; SLOTS]> {
-    let mut cells = [NONE; SLOTS];
-    for k in 0..SLOTS {
-        let cell = next_number(file, output)?;
-        cells[k] = cell;
+    pub(crate) fn next_byte(&mut self) -> io::Result<u8> {
+        let mut piece = [0];
+        self.take(&mut piece)?;
+        Ok(piece[0])
     }
-    Ok(cells)
-}
 
-fn next_core(file: &mut impl Read, output: &mut impl Write) -> io::Result<Core> {
-    let line = next_byte(file, output)?;
-    let index = next_byte(file, output)?;
-    let choosing = next_byte(file, output)?;
-    let token = next_number(file, output)?;
-    let pivot = next_number(file, output)?;
-    Ok(Core {
-        line,
-        index,
-        choosing,
-        token,
-        pivot,
-    })
-}
-
-fn next_row(file: &mut impl Read, output: &mut impl Write) -> io::Result<Row> {
-    let core = next_core(file, output)?;
-    let cells = next_cells(file, output)?;
-    Ok(Row { core, cells })
-}
-
-pub(crate) fn next_table(file: &mut impl Read, output: &mut impl Write) -> io::Result<Table> {
-    let algorithm = next_byte(file, output)?;
-    let n = next_byte(file, output)?;
-    let x = next_number(file, output)?;
-    let mut rows = [next_row(file, output)?; SLOTS];
-    for k in 1..SLOTS {
-        let row = next_row(file, output)?;
-        rows[k] = row;
+    // A number of two bytes, the lower one first. Each byte is taken by itself, so that each one that is missing is said.
+    pub(crate) fn next_length(&mut self) -> io::Result<usize> {
+        let bytes = array::try_from_fn(|_| self.next_byte())?;
+        Ok(usize::from(u16::from_le_bytes(bytes)))
     }
-    Ok(Table {
-        algorithm,
-        n,
-        x,
-        rows,
-    })
+
+    // A number of four bytes, the lowest one first.
+    fn next_number(&mut self) -> io::Result<i32> {
+        let bytes = array::try_from_fn(|_| self.next_byte())?;
+        Ok(i32::from_le_bytes(bytes))
+    }
+
+    // Some bytes that have their length before them.
+    pub(crate) fn next_piece<'s>(&mut self, space: &'s mut [u8]) -> io::Result<&'s [u8]> {
+        let piece = part(space, self.next_length()?);
+        self.take(piece)?;
+        Ok(piece)
+    }
+
+    fn next_core(&mut self) -> io::Result<Core> {
+        Ok(Core {
+            line: self.next_byte()?,
+            index: self.next_byte()?,
+            choosing: self.next_byte()?,
+            token: self.next_number()?,
+            pivot: self.next_number()?,
+        })
+    }
+
+    fn next_row(&mut self) -> io::Result<Row> {
+        Ok(Row {
+            core: self.next_core()?,
+            cells: array::try_from_fn(|_| self.next_number())?,
+        })
+    }
+
+    pub(crate) fn next_table(&mut self) -> io::Result<Table> {
+        Ok(Table {
+            algorithm: self.next_byte()?,
+            n: self.next_byte()?,
+            x: self.next_number()?,
+            rows: array::try_from_fn(|_| self.next_row())?,
+        })
+    }
 }

@@ -7,6 +7,7 @@ use stored::{Restored, Wrote};
 use table::Table;
 
 // Writes a table, and reads the bytes that the write answers to have written: none where it is refused.
+#[tactic(auto, using(stored::proofs::WriteAnswers::written_within, std::proofs::lemmas::Grind::common_steps))]
 pub(crate) fn written_and_read(t: Table, lent: &mut [u8]) -> Restored
     ensures value { result ≡ written_and_read t lent.old }
     ensures lent_after { lent.new ≡ buffer_of t lent.old }
@@ -17,6 +18,7 @@ pub(crate) fn written_and_read(t: Table, lent: &mut [u8]) -> Restored
 }
 
 // Reads a form, and writes the table that the read answers.
+#[tactic(auto, using(demands::proofs::RoundTrips::read_and_written))]
 pub(crate) fn read_and_written(form: &[u8], lent: &mut [u8]) -> Wrote
     ensures { SameBytes form.now lent.old result lent.new }
 {

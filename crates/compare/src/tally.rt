@@ -1,78 +1,93 @@
 // Totals over the bytes given.
 ghost use Rattle.std.specs.Prelude.{◌≡◌, ◌+◌, ◌≤◌, ◌<◌, ◌^◌};
-ghost use Rattle.compare.specs.Tally.{Sound};
 
-use fields::refusal;
+use std::fmt;
+use std::ops::AddAssign;
 
-// What came of one byte: the unbounded machine's mark and stop number, whether it was an entry, and whether the machines agree after it.
+// What the unbounded machine did at one byte.
+#[derive(Clone, Copy)]
+pub(crate) enum Outcome {
+    Refused,
+    // the byte was taken and changed nothing
+    Waited,
+    Moved,
+    // a move, "8: X takes the token; line 9. This step is the entry."
+    Entered,
+}
+
+impl Outcome {
+    pub(crate) fn is_move(self) -> bool {
+        matches!(self, Outcome::Moved | Outcome::Entered)
+    }
+}
+
+// What came of one byte: the outcome, and whether the machines agree after it.
 #[derive(Clone, Copy)]
 pub(crate) struct Event {
-    pub(crate) mark: u8,
-    pub(crate) stop: u8,
-    pub(crate) entry: bool,
+    pub(crate) outcome: Outcome,
     pub(crate) agreed: bool,
 }
 
-impl Event {
-    // A wait is a byte that was taken and changed nothing.
-    fn is_wait(self) -> bool {
-        (self.stop == refusal::NO_REFUSAL) & (self.mark == 0)
-    }
-}
-
-// Bytes given and, among them, entries, waits, refused bytes, and bytes after which the machines did not agree.
+// Bytes given and, among them, entries, waits, refused bytes, and bytes after which the machines did not agree. No total is above the
+// number of bytes, so that where the bytes fit all do.
 #[derive(Clone, Copy)]
 pub(crate) struct Tally {
     pub(crate) bytes: u64,
-    pub(crate) entries: u64,
-    pub(crate) waits: u64,
-    pub(crate) refused: u64,
-    pub(crate) disagreements: u64,
-}
-
-fn one_if(b: bool) -> u64
-    ensures { result ≤ 1 }
-{
-    if b { 1 } else { 0 }
+    entries: u64,
+    waits: u64,
+    refused: u64,
+    disagreements: u64,
+    ghost entries_within: { entries ≤ bytes },
+    ghost waits_within: { waits ≤ bytes },
+    ghost refused_within: { refused ≤ bytes },
+    ghost disagreements_within: { disagreements ≤ bytes },
 }
 
 impl Tally {
-    pub(crate) fn empty() -> Tally
-        ensures { Sound result × (result.bytes ≡ 0) }
-    {
-        Tally {
-            bytes: 0,
-            entries: 0,
-            waits: 0,
-            refused: 0,
-            disagreements: 0,
-        }
-    }
+    pub(crate) const EMPTY: Tally = Tally {
+        bytes: 0,
+        entries: 0,
+        waits: 0,
+        refused: 0,
+        disagreements: 0,
+    };
 
     // One byte more.
-    pub(crate) fn with(self, e: Event) -> Tally
-        requires { Sound self × (self.bytes < 2 ^ 32) }
-        ensures { Sound result × (result.bytes ≡ self.bytes + 1) }
+    pub(crate) fn count(&mut self, event: Event)
+        requires { self.old.bytes + 1 < 2 ^ 64 }
+        ensures { self.new.bytes ≡ self.old.bytes + 1 }
     {
-        Tally {
-            bytes: self.bytes + 1,
-            entries: self.entries + one_if(e.entry),
-            waits: self.waits + one_if(e.is_wait()),
-            refused: self.refused + one_if(e.stop != refusal::NO_REFUSAL),
-            disagreements: self.disagreements + one_if(!e.agreed),
+        self.bytes += 1;
+        match event.outcome {
+            Outcome::Refused => self.refused += 1,
+            Outcome::Waited => self.waits += 1,
+            Outcome::Moved => {}
+            Outcome::Entered => self.entries += 1,
         }
+        self.disagreements += u64::from(!event.agreed);
     }
+}
 
-    pub(crate) fn plus(self, other: Tally) -> Tally
-        requires { Sound self × Sound other × (self.bytes + other.bytes < 2 ^ 32) }
-        ensures { Sound result × (result.bytes ≡ self.bytes + other.bytes) }
-    {
-        Tally {
-            bytes: self.bytes + other.bytes,
-            entries: self.entries + other.entries,
-            waits: self.waits + other.waits,
-            refused: self.refused + other.refused,
-            disagreements: self.disagreements + other.disagreements,
-        }
+impl AddAssign for Tally {
+    ghost can_add_assign = { λ self other. self.bytes + other.bytes < 2 ^ 64 };
+
+    ghost add_assign_gives = { λ before other after. after.bytes ≡ before.bytes + other.bytes };
+
+    fn add_assign(&mut self, other: Tally) {
+        self.bytes += other.bytes;
+        self.entries += other.entries;
+        self.waits += other.waits;
+        self.refused += other.refused;
+        self.disagreements += other.disagreements;
+    }
+}
+
+impl fmt::Display for Tally {
+    fn fmt<W: fmt::Write>(&self, f: &mut fmt::Formatter<W>) -> fmt::Result {
+        write!(
+            f,
+            "bytes {} entries {} waits {} refused {} disagreements {}",
+            self.bytes, self.entries, self.waits, self.refused, self.disagreements
+        )
     }
 }

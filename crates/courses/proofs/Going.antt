@@ -8,7 +8,7 @@ use lib.ListN.{length, get_or, take, set, length-append, length-set}
 use lib.Seq.{take_all}
 use Rattle.laws.specs.Lent.{in_front}
 use Rattle.laws.proofs.Tests.{by_test}
-use Rattle.fields.specs.Refusals.{no_refusal}
+use Rattle.fields.specs.Refusals.{Stop, no_refusal}
 use Rattle.courses.specs.Course.{Machine, Turn, Course, turn_on, course_on, those, changed, moved_in, waited_in, processes_of}
 use Rattle.courses.proofs.Counts.{count_most, count_more, moved_more, noted}
 use Rattle.courses.proofs.Courses.{byte_taken, byte_refused, Keeps, Marks, bytes_taken}
@@ -21,7 +21,7 @@ pub record Lawful {T : Type 0} (m : Machine T) (P : T → Type 0) : Type 0 where
 -- What the loop holds where it has come to course c: t and `stop` are its last table and its stop number; k bytes were taken, `moved` of
 -- them changed the table, and the others waited; f holds of `listed` of the turns (of those that are entries, in a run), and their processes
 -- stand in front of the buffer, which was b₀ and is b. The answer of a run is read off it.
-pub record Reached {T : Type 0} (c : Course T) (f : Turn → Bool) (b₀ b : List ℕ) (t : T) (moved listed k stop : ℕ) : Type 0 where
+pub record Reached {T : Type 0} (c : Course T) (f : Turn → Bool) (b₀ b : List ℕ) (t : T) (moved listed k : ℕ) (stop : Stop) : Type 0 where
   pub table : t ≡ c.table
   pub moves : moved ≡ moved_in c.turns
   pub waits : k - moved ≡ waited_in c.turns
@@ -96,7 +96,7 @@ module _ {T : Type 0} {m : Machine T} {f : Turn → Bool} {P : T → Type 0} {s 
       }
 
   -- a byte is refused
-  pub stops : {stop : ℕ} → k < length s → m.stop t (get_or s k 0) ≡ stop → (stop ≡ no_refusal → ⊥)
+  pub stops : {stop : Stop} → k < length s → m.stop t (get_or s k 0) ≡ stop → (stop ≡ no_refusal → ⊥)
       → Reached (course_on m t₀ s) f b₀ b t moved listed k stop
   stops more e refused =
       let r = g.so_far in

@@ -1,14 +1,14 @@
 -- Document 01, "A run", over any machine: the steps of a schedule one after another, and what is counted of them. A crate that runs tables
 -- of its own kind says what their machine is, and at which line it has its entry.
 use Rattle.std.specs.Prelude.{ℕ, Bool, cond, List, [], ◌∷◌, ◌++◌, map, eqb, length}
-use Rattle.fields.specs.Refusals.{no_refusal}
+use Rattle.fields.specs.Refusals.{Stop, no_refusal, is_accepted}
 
 -- A machine over tables T: the table after a step of process i, the mark and the stop number of the step, and the line at which process i
 -- stands. (The theory's `Machine` is another: the next token, and who goes before.)
 pub record Machine (T : Type 0) : Type 0 where
   pub after : T → ℕ → T
   pub mark : T → ℕ → ℕ
-  pub stop : T → ℕ → ℕ
+  pub stop : T → ℕ → Stop
   pub line : T → ℕ → ℕ
 
 -- A byte that is taken: the process, the line at which it stood, and the mark of its step.
@@ -21,10 +21,10 @@ pub record Turn : Type 0 where
 pub record Course (T : Type 0) : Type 0 where
   pub turns : List Turn
   pub table : T
-  pub stop : ℕ
+  pub stop : Stop
 
 -- a course that is nothing but its table: no byte is taken
-abbrev pub stands_at : {T : Type 0} → T → ℕ → Course T
+abbrev pub stands_at : {T : Type 0} → T → Stop → Course T
 stands_at t stop = record { turns = []; table = t; stop = stop }
 
 -- a course begun by some turns
@@ -40,7 +40,7 @@ module _ {T : Type 0} (m : Machine T) where
   unfoldable pub course_on : T → List ℕ → Course T
   course_on t [] = stands_at t no_refusal
   course_on t (i ∷ later) =
-      cond (eqb (m.stop t i) no_refusal) (begun_by (turn_on t i ∷ []) (course_on (m.after t i) later)) (stands_at t (m.stop t i))
+      cond (is_accepted (m.stop t i)) (begun_by (turn_on t i ∷ []) (course_on (m.after t i) later)) (stands_at t (m.stop t i))
 
 -- The turns of which f holds.
 unfoldable pub those : (Turn → Bool) → List Turn → List Turn

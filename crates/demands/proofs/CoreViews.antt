@@ -11,7 +11,7 @@ use lib.IntN.{ℤ, pos, negsuc}
 use Rattle.laws.specs.Tests.{within, withinℤ}
 use Rattle.laws.proofs.Tests.{by_answer, and_halves, within_low, within_high}
 use Rattle.fields.specs.Numbers.{is_none, top_of}
-use Rattle.fields.specs.Refusals.{no_refusal}
+use Rattle.fields.specs.Refusals.{no_refusal, above_token_limit}
 use Rattle.fields.specs.Rules.{index_ok, choosing_ok, token_ok}
 use Rattle.table.specs.declared.Core.{Core}
 use Rattle.table.proofs.WellFormed.{CoreRules, line_range}
@@ -128,7 +128,7 @@ module _ (algorithm n i : ℕ) (s : State) where
     unfolding line_step line4
     line4_view token accepted =
         by_answer (is_above_limit algorithm next)
-        (λ above. absurd (omega (arith, (rw above at accepted))))
+        (λ above. let stopped : above_token_limit ≡ no_refusal = rw above at accepted in cc)
         (λ below. rw below (moved at4 refl refl (rw (shows.own, token))))
 
     -- lines 6 and 7: the index names a process

@@ -4,14 +4,13 @@ use mathlib.Core.Path.{◌≡◌, refl, sym, ap, subst, ◌∙◌}
 use mathlib.Core.Bool.{true}
 use mathlib.Core.List.{List, [], ◌∷◌}
 use native.Mathlib.Omega.{arith}
-use borrow.Author.Tests.{eqb-true}
-use lib.Dec.{eqb}
 use lib.ListN.{length, take}
 use lib.Seq.{take-length}
 use Rattle.laws.specs.Tests.{within}
 use Rattle.laws.proofs.Tests.{by_test, and_both, many_same}
 use Rattle.fields.specs.Numbers.{slots, unbounded, bounded}
-use Rattle.fields.specs.Refusals.{no_refusal}
+use Rattle.fields.specs.Refusals.{no_refusal, is_accepted}
+use Rattle.fields.proofs.Stops.{accepted_none}
 use Rattle.fields.specs.Rules.{count_ok}
 use Rattle.table.specs.WellFormed.{row_of}
 use Rattle.table.specs.Fresh.{fresh_table}
@@ -106,9 +105,9 @@ courses_until : (n : ℕ) (u b : Table) (schedule : List ℕ) → Beside n u b
 unfolding course_on
 courses_until n u b [] beside = record { stop = refl; turns = refl; last = beside }
 courses_until n u b (i ∷ later) beside =
-    by_test (λ (c : Course Table). Courses n c (course_of b (taken_in c (i ∷ later)))) (eqb (step_of u i).stop no_refusal)
+    by_test (λ (c : Course Table). Courses n c (course_of b (taken_in c (i ∷ later)))) (is_accepted (step_of u i).stop)
     (λ t.
-    let taken = eqb-true (step_of u i).stop no_refusal t in
+    let taken = accepted_none (step_of u i).stop t in
     let next = (step_of u i).table in
     let rest = courses_until n next (step_of b i).table later (step_beside n u b beside i taken) in
     subst (Courses n (begun_by (turn_of u i ∷ []) (course_of next later)))

@@ -1,5 +1,5 @@
 pub mod Tests
 pub mod InTurn
-pub mod Lists
+pub mod Chains
 pub mod Writes
 pub mod Standing

@@ -4,8 +4,8 @@ use mathlib.Core.Path.{◌≡◌, sym, ◌∙◌}
 use mathlib.Core.List.{List, [], ◌∷◌, ◌++◌, append_assoc}
 use native.Mathlib.Omega.{arith}
 use native.Mathlib.Numerals.{add-one}
-use lib.ListN.{length, get_or, take, drop, set, length-append}
-use lib.Seq.{sets, length-sets, sets-eq, set-append_seam, take-suc, drop-cons, length-take-le}
+use lib.ListN.{length, get_or, drop, set, length-append}
+use lib.Seq.{sets, sets-eq, set-append_seam, drop-cons}
 use Rattle.laws.specs.Lent.{in_front, Written}
 
 module _ {A : Type 0} where
@@ -16,14 +16,6 @@ module _ {A : Type 0} where
       let e : i + suc (length v) ≡ suc i + length v = omega arith in
       rw e (sets_append (set l i a) (suc i) v w)
 
-  -- one element more of a piece
-  pub sets_more : (l : List A) (i : ℕ) (v : List A) (k : ℕ) (z : A) → k < length v
-      → set (sets l i (take k v)) (i + k) (get_or v k z) ≡ sets l i (take (k + 1) v)
-  sets_more l i v k z h =
-      let e : length (take k v) ≡ k = length-take-le k v (omega arith) in
-      let one : take (k + 1) v ≡ take k v ++ (get_or v k z ∷ []) = rw (add-one k) (take-suc v k z h) in
-      rw (one, ← sets_append l i (take k v) (get_or v k z ∷ []), e)
-
 -- where a buffer has room for two pieces it has for the first
 pub room_first : {room : ℕ} (at : ℕ) (first second : List ℕ) → at + length (first ++ second) ≤ room → at + length first ≤ room
 room_first at first second h = omega (arith, h, length-append first second)
@@ -32,10 +24,6 @@ module _ {before between first : List ℕ} {at next : ℕ} (f : Written before a
   -- and then for the next
   pub room_next : {room : ℕ} (second : List ℕ) → at + length (first ++ second) ≤ room → next + length second ≤ room
   room_next second h = omega (arith, h, f.place, length-append first second)
-
-  -- the buffer keeps its length
-  pub same_size : length between ≡ length before
-  same_size = rw f.bytes (length-sets before at first)
 
   -- a piece and the next are the two as one
   pub and_then : {after second : List ℕ} {last : ℕ} → Written between next second after last → Written before at (first ++ second) after last

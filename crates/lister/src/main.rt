@@ -7,6 +7,7 @@ use std::io;
 use std::io::Read;
 
 // Reads until the buffer is full or the input ends, and answers how many bytes it put to the front of the buffer.
+// The loop is its own: of std, `read_exact` fails where the input ends first, `read_to_end` needs a heap, and `copy` gives no bound on its count.
 fn read_full(input: &mut impl Read, buffer: &mut [u8]) -> io::Result<usize>
     ensures { IfOk result (λ got. got ≤ length buffer.new) }
 {

@@ -1,9 +1,9 @@
 // The entry lister of document 01 as a function: the bytes of its standard input to the bytes of its text.
-#![tactic(auto)]
+#![tactic(auto, unfolding(crate::specs::Listing::bakery_line, crate::specs::Listing::entry_line, crate::specs::Listing::counts_line, crate::specs::Text::numbered_line, crate::specs::Text::numbered, crate::specs::Text::line_feed, crate::specs::Text::ascii))]
 
 mod text;
 
-ghost use Rattle.std.specs.Prelude.{◌≡◌, true, ◌+◌, ◌≤◌, length};
+ghost use Rattle.std.specs.Prelude.{◌≡◌, true, ◌≤◌, length};
 ghost use Rattle.std.proofs.lemmas.List.Edits.{sets};
 ghost use Rattle.laws.specs.Lent.{Written};
 ghost use Rattle.fields.specs.Numbers.{schedule_limit};
@@ -11,11 +11,12 @@ ghost use Rattle.table.specs.WellFormed.{well_formed};
 ghost use Rattle.machine.specs.Run.{course_of};
 ghost use Rattle.listing.specs.Listing.{refused_line, bakery_line, entry_line, entry_lines, counts_line, report, listing_of};
 ghost use Rattle.listing.specs.Room.{room};
+ghost use Rattle.listing.specs.Writer.{HasRoom, Writes};
 
-use fields::{SCHEDULE_LIMIT, refusal};
+use fields::{Refusal, SCHEDULE_LIMIT};
 use machine::Ran;
 use table::Table;
-use text::{put_line, put_numbered};
+use text::Writer;
 
 // The longest line of an entry: a word of six bytes, the three digits of a byte at most, and the line feed.
 const ENTRY_ROOM: usize = 10;
@@ -27,73 +28,68 @@ const REST_ROOM: usize = 200;
 pub const LISTING_ROOM: usize = SCHEDULE_LIMIT * ENTRY_ROOM + REST_ROOM;
 
 // `bakery A n`
-fn put_bakery(text: &mut [u8; LISTING_ROOM], at: usize, algorithm: u8, n: u8) -> usize
-    requires { at + length (bakery_line algorithm n) ≤ room }
-    ensures { Written text.old at (bakery_line algorithm n) text.new result }
+fn put_bakery(out: &mut Writer<'_>, algorithm: u8, n: u8)
+    requires { HasRoom out.old (bakery_line algorithm n) }
+    ensures { Writes out.old (bakery_line algorithm n) out.new }
 {
-    let machine = algorithm as usize;
-    let count = n as usize;
-    let next = put_numbered(text, at, b"bakery ", machine);
-    put_line(text, next, b" ", count)
+    out.put_number(b"bakery ", usize::from(algorithm));
+    out.put_line(b" ", usize::from(n));
 }
 
 // `entry P`
-fn put_entry(text: &mut [u8; LISTING_ROOM], at: usize, process: u8) -> usize
-    requires { at + length (entry_line process) ≤ room }
-    ensures { Written text.old at (entry_line process) text.new result }
+fn put_entry(out: &mut Writer<'_>, process: u8)
+    requires { HasRoom out.old (entry_line process) }
+    ensures { Writes out.old (entry_line process) out.new }
 {
-    let number = process as usize;
-    put_line(text, at, b"entry ", number)
+    out.put_line(b"entry ", usize::from(process));
 }
 
 // One line for each entry, in order.
-fn put_entries(text: &mut [u8; LISTING_ROOM], at: usize, entries: &[u8]) -> usize
-    requires { at + length (entry_lines entries.now) ≤ room }
-    ensures { Written text.old at (entry_lines entries.now) text.new result }
+fn put_entries(out: &mut Writer<'_>, entries: &[u8])
+    requires { HasRoom out.old (entry_lines entries.now) }
+    ensures { Writes out.old (entry_lines entries.now) out.new }
 {
-    let mut next = at;
-    let mut k: usize = 0;
-    while k < entries.len() {
-        next = put_entry(text, next, entries[k]);
-        k += 1;
+    for &process in entries {
+        put_entry(out, process);
     }
-    next
 }
 
 // The counts and the stop number.
-fn put_counts(text: &mut [u8; LISTING_ROOM], at: usize, r: Ran) -> usize
-    requires { at + length (counts_line r) ≤ room }
-    ensures { Written text.old at (counts_line r) text.new result }
+fn put_counts(out: &mut Writer<'_>, r: Ran)
+    requires { HasRoom out.old (counts_line r) }
+    ensures { Writes out.old (counts_line r) out.new }
 {
-    let after_moved = put_numbered(text, at, b"moved ", r.moved);
-    let after_waited = put_numbered(text, after_moved, b" waited ", r.waited);
-    let after_entries = put_numbered(text, after_waited, b" entries ", r.entries);
-    let after_waiting = put_numbered(text, after_entries, b" waiting ", r.waiting);
-    let stop = r.stop as usize;
-    put_line(text, after_waiting, b" stop ", stop)
+    out.put_number(b"moved ", r.moved);
+    out.put_number(b" waited ", r.waited);
+    out.put_number(b" entries ", r.entries);
+    out.put_number(b" waiting ", r.waiting);
+    out.put_line(b" stop ", usize::from(fields::stop_number(r.stop)));
 }
 
 // `refused N` alone.
-fn put_refused(text: &mut [u8; LISTING_ROOM], stop: u8) -> usize
-    ensures written { Written text.old 0 (refused_line stop) text.new result }
-    ensures upper_bound { result ≤ room }
+fn put_refused(text: &mut [u8; LISTING_ROOM], refusal: Refusal) -> usize
+    ensures written { Written text.old 0 (refused_line (Some refusal)) text.new result }
+    ensures fits { result ≤ room }
 {
-    let number = stop as usize;
-    put_line(text, 0, b"refused ", number)
+    let mut out = Writer::new(text);
+    out.put_line(b"refused ", usize::from(refusal.number()));
+    out.finish()
 }
 
 // The text of a run from a fresh table.
 fn put_report(text: &mut [u8; LISTING_ROOM], t: Table, schedule: &[u8]) -> usize
-    requires { (well_formed t ≡ true) × (length schedule.now ≤ schedule_limit) }
+    requires well_formed { well_formed t ≡ true }
+    requires short { length schedule.now ≤ schedule_limit }
     ensures written { Written text.old 0 (report t (course_of t schedule.now)) text.new result }
-    ensures upper_bound { result ≤ room }
+    ensures fits { result ≤ room }
 {
     let mut entries = [0; SCHEDULE_LIMIT];
     let r = machine::run(t, schedule, &mut entries);
-    let count = r.entries;
-    let next = put_bakery(text, 0, t.algorithm, t.n);
-    let last = put_entries(text, next, &entries[..count]);
-    put_counts(text, last, r)
+    let mut out = Writer::new(text);
+    put_bakery(&mut out, t.algorithm, t.n);
+    put_entries(&mut out, &entries[..r.entries]);
+    put_counts(&mut out, r);
+    out.finish()
 }
 
 // The algorithm byte and the n byte, which every input has.
@@ -105,17 +101,15 @@ pub fn list(input: &[u8], text: &mut [u8; LISTING_ROOM]) -> usize
     ensures text_after { text.new ≡ sets text.old 0 (listing_of input.now) }
 {
     if input.len() < SHORTEST {
-        return put_refused(text, refusal::FORM_TOO_SHORT);
+        return put_refused(text, Refusal::FormTooShort);
     }
     let started = table::fresh(input[0], input[1]);
-    let stop = started.stop;
-    if stop != refusal::NO_REFUSAL {
-        return put_refused(text, stop);
+    if let Some(refusal) = started.stop {
+        return put_refused(text, refusal);
     }
     let schedule = &input[2..];
     if schedule.len() > SCHEDULE_LIMIT {
-        return put_refused(text, refusal::SCHEDULE_TOO_LONG);
+        return put_refused(text, Refusal::ScheduleTooLong);
     }
-    let t = started.table;
-    put_report(text, t, schedule)
+    put_report(text, started.table, schedule)
 }

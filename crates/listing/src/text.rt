@@ -1,64 +1,63 @@
-// Words and numbers, written to a text from a place on. Each function answers the place after what it writes.
-ghost use Rattle.std.specs.Prelude.{◌≡◌, ◌++◌, ◌+◌, ◌≤◌, length};
-ghost use Rattle.laws.specs.Lent.{Written};
-ghost use Rattle.listing.specs.Room.{room};
+// A lent text that is written from the front on.
+ghost use Rattle.std.specs.Prelude.{◌≡◌, ◌++◌};
 ghost use Rattle.listing.specs.Text.{decimal, line_feed};
 
 use crate::LISTING_ROOM;
+use itoa::Buffer;
 
-// The bytes of a word.
-fn put_word(text: &mut [u8; LISTING_ROOM], at: usize, word: &[u8]) -> usize
-    requires { at + length word.now ≤ room }
-    ensures { Written text.old at word.now text.new result }
-{
-    let mut k: usize = 0;
-    while k < word.len() {
-        text[at + k] = word[k];
-        k += 1;
+// The text, and how much of it is written.
+#[derive(Drop)]
+pub(crate) struct Writer<'a> {
+    text: &'a mut [u8; LISTING_ROOM],
+    len: usize,
+}
+
+impl<'a> Writer<'a> {
+    ghost use Rattle.listing.specs.Writer.{HasRoom, Writes};
+
+    pub(crate) fn new(text: &'a mut [u8; LISTING_ROOM]) -> Writer<'a>
+        ensures same_reference { result.text.ghost_name ≡ text.entry.ghost_name }
+        ensures unchanged { result.text.now ≡ text.old }
+        ensures empty { result.len ≡ 0 }
+    {
+        Writer { text, len: 0 }
     }
-    at + k
-}
 
-// A number as `io::decimal` takes it.
-fn wide(n: usize) -> u64
-    ensures { result ≡ n }
-{
-    n as u64
-}
+    // Ends the writing, and answers how much of the text is written.
+    pub(crate) fn finish(self) -> usize
+        ensures written { self.exit.0.now ≡ self.entry.text.now }
+        ensures len { result ≡ self.entry.len }
+    {
+        self.len
+    }
 
-// A number in decimal.
-fn put_decimal(text: &mut [u8; LISTING_ROOM], at: usize, n: usize) -> usize
-    requires { at + length (decimal n) ≤ room }
-    ensures { Written text.old at (decimal n) text.new result }
-{
-    let mut digits = [0; 20];
-    let count = io::decimal(wide(n), &mut digits);
-    put_word(text, at, &digits[..count])
-}
+    fn put(&mut self, word: &[u8])
+        requires { HasRoom self.old word.now }
+        ensures { Writes self.old word.now self.new }
+    {
+        let end = self.len + word.len();
+        // Lent whole first: no proof is made of a part of what a field points to.
+        let text = &mut *self.text;
+        text[self.len..end].copy_from_slice(word);
+        self.len = end;
+    }
 
-// A word and a number after it.
-pub(crate) fn put_numbered(text: &mut [u8; LISTING_ROOM], at: usize, word: &[u8], n: usize) -> usize
-    requires { at + length (word.now ++ decimal n) ≤ room }
-    ensures { Written text.old at (word.now ++ decimal n) text.new result }
-{
-    let next = put_word(text, at, word);
-    put_decimal(text, next, n)
-}
+    // A word, and a number in decimal after it.
+    pub(crate) fn put_number(&mut self, word: &[u8], n: usize)
+        requires { HasRoom self.old (word.now ++ decimal n) }
+        ensures { Writes self.old (word.now ++ decimal n) self.new }
+    {
+        self.put(word);
+        let mut digits = Buffer::new();
+        self.put(digits.format(n).as_bytes());
+    }
 
-// The end of a line.
-fn put_line_feed(text: &mut [u8; LISTING_ROOM], at: usize) -> usize
-    requires { at + length line_feed ≤ room }
-    ensures { Written text.old at line_feed text.new result }
-{
-    text[at] = b'\n';
-    at + 1
-}
-
-// A line of a word and a number.
-pub(crate) fn put_line(text: &mut [u8; LISTING_ROOM], at: usize, word: &[u8], n: usize) -> usize
-    requires { at + length (word.now ++ decimal n ++ line_feed) ≤ room }
-    ensures { Written text.old at (word.now ++ decimal n ++ line_feed) text.new result }
-{
-    let end = put_numbered(text, at, word, n);
-    put_line_feed(text, end)
+    // The same as a line.
+    pub(crate) fn put_line(&mut self, word: &[u8], n: usize)
+        requires { HasRoom self.old (word.now ++ decimal n ++ line_feed) }
+        ensures { Writes self.old (word.now ++ decimal n ++ line_feed) self.new }
+    {
+        self.put_number(word, n);
+        self.put(b"\n");
+    }
 }

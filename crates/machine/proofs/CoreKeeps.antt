@@ -9,7 +9,7 @@ use lib.IntN.{ℤ, pos}
 use Rattle.laws.specs.Tests.{within, withinℤ}
 use Rattle.laws.proofs.Tests.{by_test, and_both, within_high, within_yes}
 use Rattle.fields.specs.Numbers.{first_line, last_line, top_of}
-use Rattle.fields.specs.Refusals.{no_refusal, above_token_limit}
+use Rattle.fields.specs.Refusals.{Stop, no_refusal, above_token_limit}
 use Rattle.fields.specs.Rules.{x_ok, line_ok, index_ok, choosing_ok, token_ok, pivot_ok}
 use Rattle.table.specs.declared.Core.{Core}
 use Rattle.table.proofs.WellFormed.{CoreRules}
@@ -46,7 +46,7 @@ module _ (algorithm n i : ℕ) (next : ℤ) (s : Seen) (c : Core) (some : 1 ≤ 
   unfolding line_ok
   line_ok_lem k h = rw (le-leb i n) h
 
-  still : (stop : ℕ) → KeptCore algorithm n i (refuses stop s c)
+  still : (stop : Stop) → KeptCore algorithm n i (refuses stop s c)
   still stop = record { rules = rules; x = x }
 
   moved : {to : Core} → CoreRules (top_of algorithm n) n i to → KeptCore algorithm n i (moves s.x to)

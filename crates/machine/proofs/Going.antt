@@ -11,7 +11,7 @@ use lib.IntN.{ℤ}
 use lib.ListN.{length, get_or, set}
 use Rattle.laws.specs.Tests.{within}
 use Rattle.fields.specs.Numbers.{line_of_entry}
-use Rattle.fields.specs.Refusals.{no_refusal}
+use Rattle.fields.specs.Refusals.{Stop, no_refusal}
 use Rattle.courses.specs.Course.{Course}
 use Rattle.courses.proofs.Going.{Lawful, Reached, Going, takes, stops}
 use Rattle.table.specs.WellFormed.{no_row, well_formed}
@@ -42,7 +42,7 @@ lawful =
     }
 
 -- what `ended` makes of the loop's counts is the answer of the course to which the loop has come
-pub answered : {c : Course Table} {b₀ b : List ℕ} {t : Table} {moved entered k stop : ℕ} {answer : Ran}
+pub answered : {c : Course Table} {b₀ b : List ℕ} {t : Table} {moved entered k : ℕ} {stop : Stop} {answer : Ran}
     → Reached c is_entry b₀ b t moved entered k stop → answer ≡ ended_run t moved entered k stop → answer ≡ answer_of c
 answered r e =
     e
@@ -84,7 +84,7 @@ module _ {s b₀ b : List ℕ} {t₀ t : Table} {moved entered k p q : ℕ} {see
       ∙ out_and_back t (get_or s k 0) at.own at.other at.sees refl
 
   -- the byte is refused
-  pub byte_stops : {stop : ℕ} → advanced.stop ≡ stop → (stop ≡ no_refusal → ⊥) → Reached (course_of t₀ s) is_entry b₀ b t moved entered k stop
+  pub byte_stops : {stop : Stop} → advanced.stop ≡ stop → (stop ≡ no_refusal → ⊥) → Reached (course_of t₀ s) is_entry b₀ b t moved entered k stop
   byte_stops e refused = stops at.going at.more (ap (λ (r : Stepped). r.stop) stepped ∙ e) refused
 
   -- or it is taken

@@ -6,7 +6,7 @@ use native.Mathlib.Omega.{arith}
 use lib.Dec.{leb, eqb}
 use lib.IntN.{ℤ}
 use Rattle.laws.proofs.Tests.{by_test}
-use Rattle.fields.specs.Refusals.{no_refusal, above_token_limit}
+use Rattle.fields.specs.Refusals.{Stop, no_refusal, above_token_limit}
 use Rattle.table.specs.declared.Core.{Core}
 use Rattle.table.specs.declared.Row.{Row}
 use Rattle.tokens.specs.Tokens.{next_token}
@@ -37,7 +37,7 @@ abbrev MarkedCore : Seen → Core → Went → Type 0
 MarkedCore s c w = StillCore s c w ⊎ MovedCore c w
 
 module _ (s : Seen) (c : Core) where
-  still : (stop : ℕ) → (c.line ≡ 2 → ⊥) → MarkedCore s c (refuses stop s c)
+  still : (stop : Stop) → (c.line ≡ 2 → ⊥) → MarkedCore s c (refuses stop s c)
   still stop not_2 = inl (record { mark = refl; core = refl; x = refl; not_2 = not_2 })
 
   moved : {x : ℤ} {next : Core} → (next.line ≡ c.line → next.index ≡ c.index → ⊥) → MarkedCore s c (moves x next)

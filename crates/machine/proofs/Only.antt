@@ -2,7 +2,6 @@
 use Prim.Native.Nat.{ℕ}
 use mathlib.Core.Path.{◌≡◌, refl, sym, ◌∙◌}
 use mathlib.Core.Bool.{true, false, true≢false}
-use native.Mathlib.Omega.{arith}
 use lib.Dec.{eqb}
 use lib.IntN.{ℤ}
 use Rattle.laws.specs.Tests.{within}
@@ -51,7 +50,7 @@ module _ (algorithm n i : ℕ) (next : ℤ) (s : Seen) (c : Core) where
       waiting never = record { x = λ _. refl; stop = λ _. refl; mark = λ range not_6 not_7 _. absurd (never range not_6 not_7) }
 
       refused : ((c.line ≡ 4 → is_above_limit algorithm next ≡ false) → ⊥) → Does (refuses above_token_limit s c)
-      refused above = record { x = λ _. refl; stop = λ below. absurd (above below); mark = λ _ _ _ e. absurd (omega arith) }
+      refused above = record { x = λ _. refl; stop = λ below. absurd (above below); mark = λ _ _ _ e. cc }
 
   pub only_8_writes : (c.line ≡ 8 → ⊥) → (any_line algorithm n i next s c).x ≡ s.x
   only_8_writes = does.x

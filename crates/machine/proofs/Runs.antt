@@ -5,13 +5,14 @@ use mathlib.Core.Bool.{true}
 use mathlib.Core.List.{List, [], ◌∷◌, ◌++◌}
 use mathlib.Core.Logic.{⊎_elim}
 use native.Mathlib.Omega.{arith}
-use borrow.Author.Tests.{le-leb, leb-true, eqb-true, eqb-false, ne_eqb}
-use lib.Dec.{leb, eqb}
+use borrow.Author.Tests.{le-leb, leb-true}
+use lib.Dec.{leb}
 use lib.ListN.{length, length-append}
 use Rattle.laws.specs.Lent.{in_front}
 use Rattle.laws.proofs.Tests.{by_test, by_answer}
 use Rattle.fields.specs.Numbers.{schedule_limit}
-use Rattle.fields.specs.Refusals.{no_refusal}
+use Rattle.fields.specs.Refusals.{Stop, no_refusal, is_accepted}
+use Rattle.fields.proofs.Stops.{accepted_none, refused_some, some_refused}
 use Rattle.table.specs.WellFormed.{well_formed}
 use Rattle.table.specs.Sized.{Sized}
 use Rattle.table.specs.declared.Table.{Table}
@@ -34,8 +35,8 @@ module _ (t : Table) (s b : List ℕ) where
   pub run_not_refused : (run_of t s b).stop ≡ no_refusal → run_refusal t s b ≡ no_refusal
   unfolding run_of
   run_not_refused =
-      by_test (λ (r : Ran). r.stop ≡ no_refusal → run_refusal t s b ≡ no_refusal) (eqb (run_refusal t s b) no_refusal)
-      (λ e _. eqb-true (run_refusal t s b) no_refusal e) (λ _ e. e)
+      by_test (λ (r : Ran). r.stop ≡ no_refusal → run_refusal t s b ≡ no_refusal) (is_accepted (run_refusal t s b))
+      (λ e _. accepted_none (run_refusal t s b) e) (λ _ e. e)
 
   -- Then it answers what its course gives, and its entries stand in front of the buffer.
   module _ (accepted : run_refusal t s b ≡ no_refusal) where
@@ -51,19 +52,19 @@ module _ (t : Table) (s b : List ℕ) where
   accepted_room : run_refusal t s b ≡ no_refusal → length s ≤ length b
   unfolding run_refusal
   accepted_room =
-      let Room : ℕ → Type 0 = λ stop. stop ≡ no_refusal → length s ≤ length b in
+      let Room : Stop → Type 0 = λ stop. stop ≡ no_refusal → length s ≤ length b in
       by_test Room (well_formed t)
       (λ _. by_test Room (leb (length s) schedule_limit)
-      (λ _. by_test Room (leb (length s) (length b)) (λ room _. leb-true _ _ room) (λ _ e. absurd (omega arith)))
-      (λ _ e. absurd (omega arith)))
-      (λ _ e. absurd (omega arith))
+      (λ _. by_test Room (leb (length s) (length b)) (λ room _. leb-true _ _ room) (λ _ e. cc))
+      (λ _ e. cc))
+      (λ _ e. cc)
 
   -- So no run answers more entries than its buffer has bytes: what a caller needs to know to take them off its front.
   pub entries_within : (run_of t s b).entries ≤ length b
   unfolding run_of
   entries_within =
-      by_test (λ (r : Ran). r.entries ≤ length b) (eqb (run_refusal t s b) no_refusal)
-      (λ accepted. omega (arith, count_most is_entry (course_of t s).turns, taken_most tables t s, accepted_room (eqb-true _ _ accepted)))
+      by_test (λ (r : Ran). r.entries ≤ length b) (is_accepted (run_refusal t s b))
+      (λ accepted. omega (arith, count_most is_entry (course_of t s).turns, taken_most tables t s, accepted_room (accepted_none _ accepted)))
       (λ _. omega arith)
 
 -- A step of a well-formed table is a run of one byte.
@@ -74,19 +75,19 @@ module _ (t : Table) (i : ℕ) where
   pub one_table : one.table ≡ (step_of t i).table
   unfolding course_on
   one_table =
-      by_answer (eqb (step_of t i).stop no_refusal) (λ e. rw e)
-      (λ e. rw e (sym (step_unmarked t i (step_refused t i (eqb-false (step_of t i).stop no_refusal e)))))
+      by_answer (is_accepted (step_of t i).stop) (λ e. rw e)
+      (λ e. rw e (sym (step_unmarked t i (step_refused t i (refused_some (step_of t i).stop e)))))
 
   pub one_stop : one.stop ≡ (step_of t i).stop
   unfolding course_on
-  one_stop = by_answer (eqb (step_of t i).stop no_refusal) (λ e. rw e (sym (eqb-true (step_of t i).stop no_refusal e))) (λ e. rw e)
+  one_stop = by_answer (is_accepted (step_of t i).stop) (λ e. rw e (sym (accepted_none (step_of t i).stop e))) (λ e. rw e)
 
   pub one_mark : moved_in one.turns ≡ (step_of t i).mark
   unfolding course_on those
   one_mark =
-      by_answer (eqb (step_of t i).stop no_refusal)
+      by_answer (is_accepted (step_of t i).stop)
       (λ e. rw e (⊎_elim (λ m. rw m) (λ m. rw m) (step_mark t i)))
-      (λ e. rw e (sym (step_refused t i (eqb-false (step_of t i).stop no_refusal e))))
+      (λ e. rw e (sym (step_refused t i (refused_some (step_of t i).stop e))))
 
 -- The last table of a course is well formed, and sized, if the first one is.
 pub course_well_formed : (t : Table) (s : List ℕ) → well_formed t ≡ true → Sized t → well_formed (course_of t s).table ≡ true
@@ -136,7 +137,7 @@ module _ (t : Table) (s later buffer first : List ℕ) (both : run_refusal t (s 
   pub run_stopped : ((run_of t s first).stop ≡ no_refusal → ⊥) → run_of t (s ++ later) buffer ≡ run_of t s first
   run_stopped stopped =
       let stop : (course_of t s).stop ≡ no_refusal → ⊥ = λ q. stopped (ap (λ (r : Ran). r.stop) answer ∙ q) in
-      run_answer t (s ++ later) buffer both ∙ ap answer_of (course_append tables t s later ∙ rw (ne_eqb _ no_refusal stop)) ∙ sym answer
+      run_answer t (s ++ later) buffer both ∙ ap answer_of (course_append tables t s later ∙ rw (some_refused _ stop)) ∙ sym answer
 
   module _ (going : (run_of t s first).stop ≡ no_refusal) where
     stop : (course_of t s).stop ≡ no_refusal

@@ -10,7 +10,7 @@ use lib.Seq.{get_or-set_same, get_or-set_other, set-get_or}
 use Rattle.laws.specs.Tests.{within}
 use Rattle.laws.proofs.Tests.{by_test, within_low, within_high}
 use Rattle.fields.specs.Numbers.{slots, limit_of, top_of}
-use Rattle.fields.specs.Refusals.{not_well_formed, bad_process_number}
+use Rattle.fields.specs.Refusals.{Stop, no_refusal, not_well_formed, bad_process_number}
 use Rattle.table.specs.WellFormed.{no_row, row_of, well_formed}
 use Rattle.table.specs.Sized.{Sized}
 use Rattle.table.specs.declared.Row.{Row}
@@ -25,7 +25,7 @@ use Rattle.machine.specs.declared.Stepped.{Stepped}
 
 -- A step is refused, or it is the step of one of the processes of a well-formed table.
 by_case : (t : Table) (i : ℕ) (P : Stepped → Type 0)
-    → ((stop : ℕ) → (stop ≡ 0 → ⊥) → P (refused_step t stop))
+    → ((stop : Stop) → (stop ≡ no_refusal → ⊥) → P (refused_step t stop))
     → (well_formed t ≡ true → 1 ≤ i → i ≤ t.n → P (taken_of t i))
     → P (step_of t i)
 unfolding step_of
@@ -33,8 +33,8 @@ by_case t i P refused taken =
     by_test P (well_formed t)
     (λ w. by_test P (within 1 t.n i)
     (λ b. taken w (within_low 1 t.n i b) (within_high 1 t.n i b))
-    (λ _. refused bad_process_number (omega arith)))
-    (λ _. refused not_well_formed (omega arith))
+    (λ _. refused bad_process_number (λ q. cc)))
+    (λ _. refused not_well_formed (λ q. cc))
 
 -- The two cases of a well-formed table: the number of one of its processes, and any other.
 module _ (t : Table) (i : ℕ) (w : well_formed t ≡ true) where
@@ -178,14 +178,14 @@ module _ (t : Table) (i : ℕ) where
           m.apart (ap (λ (r : Row). r.core.line) same) (ap (λ (r : Row). r.core.index) same)
 
   -- a refused step changes nothing
-  pub step_refused : ((step_of t i).stop ≡ 0 → ⊥) → (step_of t i).mark ≡ 0
+  pub step_refused : ((step_of t i).stop ≡ no_refusal → ⊥) → (step_of t i).mark ≡ 0
   unfolding taken_of
   step_refused =
-      by_case t i (λ (u : Stepped). (u.stop ≡ 0 → ⊥) → u.mark ≡ 0) (λ _ _ _. refl)
+      by_case t i (λ (u : Stepped). (u.stop ≡ no_refusal → ⊥) → u.mark ≡ 0) (λ _ _ _. refl)
       (λ _ _ _ f. ⊎_elim (λ s. s.mark) (λ m. absurd (f m.stop)) marked)
 
   -- and one that is not refused is the step of a process of a well-formed table
-  pub step_process : (step_of t i).stop ≡ 0 → (well_formed t ≡ true) × (1 ≤ i) × (i ≤ t.n)
+  pub step_process : (step_of t i).stop ≡ no_refusal → (well_formed t ≡ true) × (1 ≤ i) × (i ≤ t.n)
   step_process =
-      by_case t i (λ (u : Stepped). u.stop ≡ 0 → (well_formed t ≡ true) × (1 ≤ i) × (i ≤ t.n))
+      by_case t i (λ (u : Stepped). u.stop ≡ no_refusal → (well_formed t ≡ true) × (1 ≤ i) × (i ≤ t.n))
       (λ _ f e. absurd (f e)) (λ w l h _. (w, l, h))

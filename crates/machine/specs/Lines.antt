@@ -2,7 +2,7 @@
 -- token, which line 4 alone asks for; and what the row keeps of the tokens that it saw.
 use Rattle.std.specs.Prelude.{ℕ, ◌+◌, ◌-◌, Bool, cond, ◌&&◌, ◌||◌, List, leb, eqb, ℤ, set}
 use Rattle.fields.specs.Numbers.{none, is_none}
-use Rattle.fields.specs.Refusals.{no_refusal, above_token_limit}
+use Rattle.fields.specs.Refusals.{Stop, no_refusal, above_token_limit}
 use Rattle.table.specs.Fresh.{all_none}
 use Rattle.table.specs.declared.Core.{Core}
 use Rattle.table.specs.declared.Row.{Row}
@@ -24,7 +24,7 @@ abbrev pub waits : Seen → Core → Went
 waits s c = record { core = c; x = s.x; mark = 0; stop = no_refusal }
 
 -- a step that is refused changes nothing either
-abbrev pub refuses : ℕ → Seen → Core → Went
+abbrev pub refuses : Stop → Seen → Core → Went
 refuses stop s c = record { core = c; x = s.x; mark = 0; stop = stop }
 
 -- "the next larger number other than i"; after 0, "the smallest number other than i"
@@ -117,7 +117,7 @@ pub record Advanced : Type 0 where
   pub row : Row
   pub x : ℤ
   pub mark : ℕ
-  pub stop : ℕ
+  pub stop : Stop
 
 -- The step of process i of a machine, its row being r, where it sees s.
 unfoldable pub advance_of : ℕ → ℕ → ℕ → Seen → Row → Advanced

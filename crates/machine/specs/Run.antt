@@ -4,7 +4,7 @@ use Rattle.std.specs.Prelude.{ℕ, Bool, cond, List, leb, eqb, length}
 use Rattle.laws.specs.Tests.{within, how_many}
 use Rattle.laws.specs.Lent.{in_front}
 use Rattle.fields.specs.Numbers.{slots, line_of_entry, schedule_limit}
-use Rattle.fields.specs.Refusals.{no_refusal, not_well_formed, schedule_too_long, entries_too_short}
+use Rattle.fields.specs.Refusals.{Stop, no_refusal, not_well_formed, schedule_too_long, entries_too_short, is_accepted}
 use Rattle.table.specs.WellFormed.{row_of, well_formed}
 use Rattle.courses.specs.Course.{Machine, Turn, Course, turn_on, course_on, those, moved_in, waited_in, processes_of}
 use Rattle.table.specs.declared.Table.{Table}
@@ -60,11 +60,11 @@ answer_of c = record {
 }
 
 -- "3, 6 and 7 of run return it with all counts and the place 0"
-abbrev pub refused_run : Table → ℕ → Ran
+abbrev pub refused_run : Table → Stop → Ran
 refused_run t stop = record { table = t; moved = 0; waited = 0; entries = 0; waiting = 0; place = 0; stop = stop }
 
 -- "Run: 3, 6, 7, then 4 or 5 byte by byte": what refuses the run as a whole
-unfoldable pub run_refusal : Table → List ℕ → List ℕ → ℕ
+unfoldable pub run_refusal : Table → List ℕ → List ℕ → Stop
 run_refusal t schedule buffer =
     cond (well_formed t)
     (cond (leb (length schedule) schedule_limit)
@@ -76,10 +76,10 @@ run_refusal t schedule buffer =
 unfoldable pub run_of : Table → List ℕ → List ℕ → Ran
 run_of t schedule buffer =
     let stop = run_refusal t schedule buffer in
-    cond (eqb stop no_refusal) (answer_of (course_of t schedule)) (refused_run t stop)
+    cond (is_accepted stop) (answer_of (course_of t schedule)) (refused_run t stop)
 
 -- What the lent buffer holds after `run`: the process numbers are "written to the front of the lent entry buffer, in order; its other bytes
 -- keep their values". On 3, 6 and 7 it is "untouched".
 unfoldable pub buffer_of : Table → List ℕ → List ℕ → List ℕ
 buffer_of t schedule buffer =
-    cond (eqb (run_refusal t schedule buffer) no_refusal) (in_front (entered_in (course_of t schedule).turns) buffer) buffer
+    cond (is_accepted (run_refusal t schedule buffer)) (in_front (entered_in (course_of t schedule).turns) buffer) buffer

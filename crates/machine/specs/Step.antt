@@ -1,7 +1,7 @@
 -- Document 01, "One step of process i", over a table: what the step sees, the table after it, and the answer of `step`.
 use Rattle.std.specs.Prelude.{ℕ, ◌-◌, cond, ℤ, set}
 use Rattle.laws.specs.Tests.{within}
-use Rattle.fields.specs.Refusals.{not_well_formed, bad_process_number}
+use Rattle.fields.specs.Refusals.{Stop, not_well_formed, bad_process_number}
 use Rattle.table.specs.WellFormed.{row_of, well_formed}
 use Rattle.table.specs.declared.Core.{Core}
 use Rattle.table.specs.declared.Table.{Table}
@@ -29,7 +29,7 @@ taken_of t i =
 
 -- "On refusal step returns the given table and the mark 0". Of refusal 5, which `taken_of` answers, and of a step that waits, the laws
 -- `step_refused` and `step_unmarked` say so (`crates/machine/proofs/Steps.antt`).
-abbrev pub refused_step : Table → ℕ → Stepped
+abbrev pub refused_step : Table → Stop → Stepped
 refused_step t stop = record { table = t; mark = 0; stop = stop }
 
 -- "Step: 3, 4, 5.": 5 is that of line 4

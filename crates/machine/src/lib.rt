@@ -6,6 +6,7 @@ mod rows;
 mod running;
 mod stepping;
 
+use fields::Refusal;
 pub use running::run;
 pub use stepping::step;
 use table::{Core, Table};
@@ -24,7 +25,7 @@ pub(crate) struct Went {
     pub(crate) core: Core,
     pub(crate) x: i32,
     pub(crate) mark: u8,
-    pub(crate) stop: u8,
+    pub(crate) stop: Option<Refusal>,
 }
 
 // The answer of `step`.
@@ -32,7 +33,7 @@ pub(crate) struct Went {
 pub struct Stepped {
     pub table: Table,
     pub mark: u8,
-    pub stop: u8,
+    pub stop: Option<Refusal>,
 }
 
 // The answer of `run`.
@@ -44,5 +45,5 @@ pub struct Ran {
     pub entries: usize,
     pub waiting: usize,
     pub place: usize,
-    pub stop: u8,
+    pub stop: Option<Refusal>,
 }

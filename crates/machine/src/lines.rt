@@ -4,39 +4,14 @@ ghost use Rattle.std.specs.Prelude.{◌≡◌, ℕ, ◌≤◌, ℤ};
 ghost use Rattle.fields.specs.Numbers.{slots, none};
 ghost use Rattle.tokens.specs.Count.{Count};
 ghost use Rattle.tokens.specs.Answers.{judged};
-ghost use Rattle.machine.specs.Ready.{Ready, OtherLine};
+ghost use Rattle.machine.specs.Ready.{OtherLine};
 ghost use Rattle.machine.specs.Setters.{with_line, with_pivot, with_token};
 ghost use Rattle.machine.specs.Lines.{moves, refuses, next_other, goes_on, passes, line1, line2, line3, line4, line5, line6, line7};
 ghost use Rattle.machine.specs.Lines.{line8, line9, line10, any_line};
 
 use crate::{Seen, Went};
-use fields::{NONE, Value, refusal};
+use fields::{NONE, Refusal, Value};
 use table::Core;
-use tokens::Next;
-
-// The step changed the core.
-fn moved(s: Seen, c: Core) -> Went
-    ensures { result ≡ moves s.x c }
-{
-    Went {
-        core: c,
-        x: s.x,
-        mark: 1,
-        stop: refusal::NO_REFUSAL,
-    }
-}
-
-// The step changed nothing: it waits, or is refused.
-fn kept(stop: u8, s: Seen, c: Core) -> Went
-    ensures { result ≡ refuses stop s c }
-{
-    Went {
-        core: c,
-        x: s.x,
-        mark: 0,
-        stop,
-    }
-}
 
 // The next larger number other than i.
 fn next_other(i: u8, j: u8) -> u8
@@ -49,214 +24,258 @@ fn next_other(i: u8, j: u8) -> u8
     j + 1
 }
 
-// To line 6 with the next larger number other than i, or to line 8 if there is none.
-fn goes_on(n: u8, i: u8, j: u8, c: Core) -> Core
-    requires { j ≤ slots }
-    ensures { result ≡ goes_on n i j c }
-{
-    let next = next_other(i, j);
-    let mut w = c;
-    if next <= n {
-        w.index = next;
-        w.line = 6;
-        return w;
-    }
-    w.index = 0;
-    w.line = 8;
-    w
-}
-
-// 1: choosing becomes 1, index 1, line 2.
-fn line_1(s: Seen, c: Core) -> Went
-    ensures { result ≡ line1 s c }
-{
-    let mut w = c;
-    w.choosing = 1;
-    w.index = 1;
-    w.line = 2;
-    moved(s, w)
-}
-
-// 2, index j: index j + 1, or, if j = n, index 0 and line 3. (`with_read` sets the read cell.)
-pub(crate) fn line_2(n: u8, s: Seen, c: Core) -> Went
-    requires { c.index ≤ slots }
-    ensures { result ≡ line2 n s c }
-{
-    let j = c.index;
-    let mut w = c;
-    if j == n {
-        w.index = 0;
-        w.line = 3;
-        return moved(s, w);
-    }
-    w.index = j + 1;
-    moved(s, w)
-}
-
-// 3: pivot takes X; line 4.
-fn line_3(s: Seen, c: Core) -> Went
-    ensures { result ≡ line3 s c }
-{
-    let mut w = c;
-    w.pivot = s.x;
-    w.line = 4;
-    moved(s, w)
-}
-
 // The token is taken, of either machine, and the pivot given up.
 fn takes_token(token: Value, c: Core) -> Core
     ensures { result ≡ with_line 5 (with_pivot none (with_token token.0 c)) }
 {
-    let mut w = c;
-    w.token = token.0;
-    w.pivot = NONE;
-    w.line = 5;
-    w
-}
-
-// 4: token takes the next token; pivot becomes -1; line 5. Where the next token is refused, by 5, so is the step. (`cleared` sets the read
-// cells.) It is given the answer of `next_token` for a token, and does with it what line 4 does with the token.
-pub(crate) fn line_4(next: Next, s: Seen, c: Core) -> Went
-    ensures { (algorithm : ℕ) (token : ℤ) → next ≡ judged algorithm token → result ≡ line4 algorithm token s c }
-{
-    if next.stop > refusal::NO_REFUSAL {
-        return kept(next.stop, s, c);
-    }
-    moved(s, takes_token(Value(next.token), c))
-}
-
-// 5: choosing becomes 0; then on to the smallest number other than i.
-fn line_5(n: u8, i: u8, s: Seen, c: Core) -> Went
-    ensures { result ≡ line5 n i s c }
-{
-    let mut w = c;
-    w.choosing = 0;
-    moved(s, goes_on(n, i, 0, w))
-}
-
-// 6, index j: if choosing j is 0, line 7; else the step waits.
-fn line_6(s: Seen, c: Core) -> Went
-    ensures { result ≡ line6 s c }
-{
-    if s.choosing == 0 {
-        let mut w = c;
-        w.line = 7;
-        return moved(s, w);
-    }
-    kept(refusal::NO_REFUSAL, s, c)
-}
-
-// Token j.
-fn token_seen(s: Seen) -> Value
-    ensures { result.0 ≡ s.token }
-{
-    Value(s.token)
-}
-
-// Whether token j is -1 or i goes before j.
-fn passes(algorithm: u8, n: u8, i: u8, s: Seen, c: Core) -> bool
-    requires { Count n }
-    ensures { result ≡ passes algorithm n i s c }
-{
-    if token_seen(s).is_none() {
-        return true;
-    }
-    tokens::goes_before(algorithm, n, i, table::token_of(c), c.index, token_seen(s))
-}
-
-// 7, index j: if token j is -1 or i goes before j, on to the next larger number; else the step waits.
-fn line_7(algorithm: u8, n: u8, i: u8, s: Seen, c: Core) -> Went
-    requires { Ready n c }
-    ensures { result ≡ line7 algorithm n i s c }
-{
-    let j = c.index;
-    if passes(algorithm, n, i, s, c) {
-        return moved(s, goes_on(n, i, j, c));
-    }
-    kept(refusal::NO_REFUSAL, s, c)
-}
-
-// Lines 6 and 7.
-pub(crate) fn waiting_line(algorithm: u8, n: u8, i: u8, s: Seen, c: Core) -> Went
-    requires { Ready n c × (6 ≤ c.line) × (c.line ≤ 7) }
-    ensures { (next : ℤ) → result ≡ any_line algorithm n i next s c }
-{
-    let line = c.line;
-    match line {
-        6 => line_6(s, c),
-        _ => line_7(algorithm, n, i, s, c),
+    Core {
+        token: token.0,
+        pivot: NONE,
+        line: 5,
+        ..c
     }
 }
 
-// 8: X takes the token; line 9. This step is the entry.
-fn line_8(c: Core) -> Went
-    ensures { result ≡ line8 c }
-{
-    let mut w = c;
-    w.line = 9;
-    Went {
-        core: w,
-        x: c.token,
-        mark: 1,
-        stop: refusal::NO_REFUSAL,
+// Process i of n at its step: the machine that it is of, and what it sees of the others. The core of its row is given to each line, since a
+// run that copied it here before the `match` was slower.
+#[derive(Clone, Copy)]
+pub(crate) struct Process {
+    pub(crate) algorithm: u8,
+    pub(crate) n: u8,
+    pub(crate) i: u8,
+    pub(crate) seen: Seen,
+    ghost counted: { Count n },
+}
+
+impl Process {
+    // The step changed the core.
+    fn moved(self, core: Core) -> Went
+        ensures { result ≡ moves self.seen.x core }
+    {
+        Went {
+            core,
+            x: self.seen.x,
+            mark: 1,
+            stop: None,
+        }
     }
-}
 
-// 9: line 10.
-fn line_9(s: Seen, c: Core) -> Went
-    ensures { result ≡ line9 s c }
-{
-    let mut w = c;
-    w.line = 10;
-    moved(s, w)
-}
-
-// 10: token becomes -1; line 1.
-fn line_10(s: Seen, c: Core) -> Went
-    ensures { result ≡ line10 s c }
-{
-    let mut w = c;
-    w.token = NONE;
-    w.line = 1;
-    moved(s, w)
-}
-
-// Of the doorway, lines 2 to 5, those that are not called by themselves: 3 and 5.
-fn doorway(n: u8, i: u8, s: Seen, c: Core) -> Went
-    requires { OtherLine c × (2 ≤ c.line) × (c.line ≤ 5) }
-    ensures { (algorithm : ℕ) (next : ℤ) → result ≡ any_line algorithm n i next s c }
-{
-    let line = c.line;
-    match line {
-        3 => line_3(s, c),
-        _ => line_5(n, i, s, c),
+    // The step changed nothing: it waits, or is refused.
+    fn kept(self, stop: Option<Refusal>, c: Core) -> Went
+        ensures { result ≡ refuses stop self.seen c }
+    {
+        Went {
+            core: c,
+            x: self.seen.x,
+            mark: 0,
+            stop,
+        }
     }
-}
 
-// Lines 8 to 10.
-fn critical(s: Seen, c: Core) -> Went
-    requires { (8 ≤ c.line) × (c.line ≤ 10) }
-    ensures { (algorithm n i : ℕ) (next : ℤ) → result ≡ any_line algorithm n i next s c }
-{
-    let line = c.line;
-    match line {
-        8 => line_8(c),
-        9 => line_9(s, c),
-        _ => line_10(s, c),
+    // To line 6 with the next larger number other than i, or to line 8 if there is none.
+    fn goes_on(self, j: u8, c: Core) -> Core
+        requires { j ≤ slots }
+        ensures { result ≡ goes_on self.n self.i j c }
+    {
+        let next = next_other(self.i, j);
+        if next <= self.n {
+            return Core {
+                index: next,
+                line: 6,
+                ..c
+            };
+        }
+        Core {
+            index: 0,
+            line: 8,
+            ..c
+        }
     }
-}
 
-// Every line but 2, 4, 6 and 7, which are called by themselves. A well-formed row stands at one of the ten; the last arm, to which none comes,
-// waits as the definition does.
-pub(crate) fn other_line(n: u8, i: u8, s: Seen, c: Core) -> Went
-    requires { OtherLine c }
-    ensures { (algorithm : ℕ) (next : ℤ) → result ≡ any_line algorithm n i next s c }
-{
-    let line = c.line;
-    match line {
-        1 => line_1(s, c),
-        2..=5 => doorway(n, i, s, c),
-        8..=10 => critical(s, c),
-        _ => kept(refusal::NO_REFUSAL, s, c),
+    // 1: choosing becomes 1, index 1, line 2.
+    fn line_1(self, c: Core) -> Went
+        ensures { result ≡ line1 self.seen c }
+    {
+        self.moved(Core {
+            choosing: 1,
+            index: 1,
+            line: 2,
+            ..c
+        })
+    }
+
+    // 2, index j: index j + 1, or, if j = n, index 0 and line 3. (`with_read` sets the read cell.)
+    pub(crate) fn line_2(self, c: Core) -> Went
+        requires { c.index ≤ slots }
+        ensures { result ≡ line2 self.n self.seen c }
+    {
+        let j = c.index;
+        if j == self.n {
+            return self.moved(Core {
+                index: 0,
+                line: 3,
+                ..c
+            });
+        }
+        self.moved(Core { index: j + 1, ..c })
+    }
+
+    // 3: pivot takes X; line 4.
+    fn line_3(self, c: Core) -> Went
+        ensures { result ≡ line3 self.seen c }
+    {
+        self.moved(Core {
+            pivot: self.seen.x,
+            line: 4,
+            ..c
+        })
+    }
+
+    // 4: token takes the next token; pivot becomes -1; line 5. Where the next token is refused, by 5, so is the step. (`cleared` sets the
+    // read cells.) It is given the answer of `next_token` for a token, and does with it what line 4 does with the token.
+    pub(crate) fn line_4(self, next: Result<Value, Refusal>, c: Core) -> Went
+        ensures { (algorithm : ℕ) (token : ℤ) → next ≡ judged algorithm token → result ≡ line4 algorithm token self.seen c }
+    {
+        match next {
+            Ok(token) => self.moved(takes_token(token, c)),
+            Err(refusal) => self.kept(Some(refusal), c),
+        }
+    }
+
+    // 5: choosing becomes 0; then on to the smallest number other than i.
+    fn line_5(self, c: Core) -> Went
+        ensures { result ≡ line5 self.n self.i self.seen c }
+    {
+        self.moved(self.goes_on(0, Core { choosing: 0, ..c }))
+    }
+
+    // 6, index j: if choosing j is 0, line 7; else the step waits.
+    fn line_6(self, c: Core) -> Went
+        ensures { result ≡ line6 self.seen c }
+    {
+        if self.seen.choosing == 0 {
+            return self.moved(Core { line: 7, ..c });
+        }
+        self.kept(None, c)
+    }
+
+    // Token j.
+    fn token_seen(self) -> Value
+        ensures { result.0 ≡ self.seen.token }
+    {
+        Value(self.seen.token)
+    }
+
+    // Whether token j is -1 or i goes before j.
+    fn passes(self, c: Core) -> bool
+        ensures { result ≡ passes self.algorithm self.n self.i self.seen c }
+    {
+        if self.token_seen().is_none() {
+            return true;
+        }
+        let own = table::token_of(c);
+        tokens::goes_before(
+            self.algorithm,
+            self.n,
+            self.i,
+            own,
+            c.index,
+            self.token_seen(),
+        )
+    }
+
+    // 7, index j: if token j is -1 or i goes before j, on to the next larger number; else the step waits.
+    fn line_7(self, c: Core) -> Went
+        requires { c.index ≤ slots }
+        ensures { result ≡ line7 self.algorithm self.n self.i self.seen c }
+    {
+        if self.passes(c) {
+            return self.moved(self.goes_on(c.index, c));
+        }
+        self.kept(None, c)
+    }
+
+    // Lines 6 and 7.
+    pub(crate) fn waiting_line(self, c: Core) -> Went
+        requires index { c.index ≤ slots }
+        requires from { 6 ≤ c.line }
+        requires to { c.line ≤ 7 }
+        ensures { (next : ℤ) → result ≡ any_line self.algorithm self.n self.i next self.seen c }
+    {
+        match c.line {
+            6 => self.line_6(c),
+            _ => self.line_7(c),
+        }
+    }
+
+    // 8: X takes the token; line 9. This step is the entry.
+    fn line_8(self, c: Core) -> Went
+        ensures { result ≡ line8 c }
+    {
+        let core = Core { line: 9, ..c };
+        Went {
+            core,
+            x: c.token,
+            mark: 1,
+            stop: None,
+        }
+    }
+
+    // 9: line 10.
+    fn line_9(self, c: Core) -> Went
+        ensures { result ≡ line9 self.seen c }
+    {
+        self.moved(Core { line: 10, ..c })
+    }
+
+    // 10: token becomes -1; line 1.
+    fn line_10(self, c: Core) -> Went
+        ensures { result ≡ line10 self.seen c }
+    {
+        self.moved(Core {
+            token: NONE,
+            line: 1,
+            ..c
+        })
+    }
+
+    // Of the doorway, lines 2 to 5, those that are not called by themselves: 3 and 5.
+    fn doorway(self, c: Core) -> Went
+        requires from { 2 ≤ c.line }
+        requires to { c.line ≤ 5 }
+        requires other { OtherLine c }
+        ensures { (next : ℤ) → result ≡ any_line self.algorithm self.n self.i next self.seen c }
+    {
+        match c.line {
+            3 => self.line_3(c),
+            _ => self.line_5(c),
+        }
+    }
+
+    // Lines 8 to 10.
+    fn critical(self, c: Core) -> Went
+        requires from { 8 ≤ c.line }
+        requires to { c.line ≤ 10 }
+        ensures { (next : ℤ) → result ≡ any_line self.algorithm self.n self.i next self.seen c }
+    {
+        match c.line {
+            8 => self.line_8(c),
+            9 => self.line_9(c),
+            _ => self.line_10(c),
+        }
+    }
+
+    // Every line but 2, 4, 6 and 7, which are called by themselves. A well-formed row stands at one of the ten; the last arm, to which none
+    // comes, waits as the definition does.
+    pub(crate) fn other_line(self, c: Core) -> Went
+        requires { OtherLine c }
+        ensures { (next : ℤ) → result ≡ any_line self.algorithm self.n self.i next self.seen c }
+    {
+        match c.line {
+            1 => self.line_1(c),
+            2..=5 => self.doorway(c),
+            8..=10 => self.critical(c),
+            _ => self.kept(None, c),
+        }
     }
 }

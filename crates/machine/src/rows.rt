@@ -6,18 +6,14 @@ ghost use Rattle.tokens.specs.Answers.{next_of};
 ghost use Rattle.machine.specs.Step.{seen_in};
 
 use crate::Seen;
-use fields::{NONE, SLOTS, Value};
+use fields::{NONE, Refusal, SLOTS, Value};
 use table::{Core, Row};
-use tokens::Next;
 
 // The place of a process's row or read cell: process numbers start at 1.
 pub(crate) fn place_of(process: u8) -> usize
     ensures { result ≡ process - 1 }
 {
-    if process < 1 {
-        return 0;
-    }
-    (process - 1) as usize
+    process.saturating_sub(1) as usize
 }
 
 // What a step sees: X, and of the row at its index the choosing flag and the token.
@@ -32,7 +28,7 @@ pub(crate) fn seen_in(x: Value, other: Core) -> Seen
 }
 
 // The next token that a row's pivot and read cells give.
-pub(crate) fn next_of(algorithm: u8, n: u8, r: Row) -> Next
+pub(crate) fn next_of(algorithm: u8, n: u8, r: Row) -> Result<Value, Refusal>
     ensures { result ≡ next_of algorithm n r.core.pivot r.cells }
 {
     let cells = r.cells;
@@ -43,9 +39,7 @@ pub(crate) fn next_of(algorithm: u8, n: u8, r: Row) -> Next
 pub(crate) fn with_core(core: Core, r: Row) -> Row
     ensures { result ≡ record { core = core; cells = r.cells } }
 {
-    let mut w = r;
-    w.core = core;
-    w
+    Row { core, ..r }
 }
 
 // After line 2, index j: read cell j takes the token that is seen. The cells are changed as an array of their own: set inside the row, the
@@ -54,10 +48,8 @@ pub(crate) fn with_read(s: Seen, core: Core, r: Row) -> Row
     requires { r.core.index ≤ slots }
     ensures { result ≡ record { core = core; cells = set r.cells (r.core.index - 1) s.token } }
 {
-    let q = place_of(r.core.index);
-    let token = s.token;
     let mut cells = r.cells;
-    cells[q] = token;
+    cells[place_of(r.core.index)] = s.token;
     Row { core, cells }
 }
 

@@ -1,6 +1,5 @@
 // A run: the steps of a schedule one after another, and what is counted of them.
 ghost use Rattle.std.specs.Prelude.{◌≡◌, true, cond, ◌+◌, ◌-◌, ◌<◌, ◌≤◌, eqb, length, set};
-ghost use Rattle.laws.specs.Tests.{within};
 ghost use Rattle.laws.specs.Lent.{in_front};
 ghost use Rattle.fields.specs.Numbers.{line_of_entry};
 ghost use Rattle.table.specs.WellFormed.{well_formed};
@@ -8,41 +7,27 @@ ghost use Rattle.machine.specs.Run.{course_of, entered_in, waiting_of, answer_of
 ghost use Rattle.machine.specs.Ended.{ended_run};
 
 use crate::Ran;
-use crate::lines::{line_2, line_4, other_line, waiting_line};
+use crate::lines::Process;
 use crate::rows::{cleared, next_of, place_of, seen_in, with_core, with_read};
-use fields::{LINE_OF_ENTRY, SCHEDULE_LIMIT, SLOTS, Value, refusal};
+use fields::{LINE_OF_ENTRY, Refusal, SCHEDULE_LIMIT, Value};
 use table::Table;
 
 // The mark of a step that changed the table.
 const MOVED: u8 = 1;
 
-// 1 for a row that waits, at line 6 or 7, and 0 for another.
-fn waits_at(line: u8) -> usize
-    ensures value { result ≡ cond (within 6 7 line) 1 0 }
-    ensures upper_bound { result ≤ 1 }
-{
-    if fields::number_within(6, 7, line) {
-        return 1;
-    }
-    0
-}
-
-// How many rows wait.
+// How many rows wait, at line 6 or 7.
 fn waiting_in(t: Table) -> usize
     ensures { result ≡ waiting_of t }
 {
-    let mut waiting: usize = 0;
-    let mut k: usize = 0;
-    while k < SLOTS {
-        waiting += waits_at(t.rows[k].core.line);
-        k += 1;
-    }
-    waiting
+    t.rows
+        .iter()
+        .filter(|row| fields::number_within(6, 7, row.core.line))
+        .count()
 }
 
 // The answer of a run that is refused as a whole: all counts and the place are 0.
-fn refused(t: Table, stop: u8) -> Ran
-    ensures { result ≡ refused_run t stop }
+fn refused(t: Table, refusal: Refusal) -> Ran
+    ensures { result ≡ refused_run t (Some refusal) }
 {
     Ran {
         table: t,
@@ -51,12 +36,12 @@ fn refused(t: Table, stop: u8) -> Ran
         entries: 0,
         waiting: 0,
         place: 0,
-        stop,
+        stop: Some(refusal),
     }
 }
 
 // The answer of a run that ends in table t at this place, the number of bytes taken; those that did not move waited.
-fn ended(t: Table, moved: usize, entries: usize, place: usize, stop: u8) -> Ran
+fn ended(t: Table, moved: usize, entries: usize, place: usize, stop: Option<Refusal>) -> Ran
     requires { moved ≤ place }
     ensures { result ≡ ended_run t moved entries place stop }
 {
@@ -89,65 +74,63 @@ fn note_entry(entries: &mut [u8], count: usize, line: u8, i: u8) -> usize
 // checked again for each; and it touches its own row and X alone. The row is copied out inside each arm of the `match`, changed, and put
 // back at once: one that passed through a join of arms would be copied whole once more.
 pub(crate) fn course(start: Table, schedule: &[u8], entries: &mut [u8]) -> Ran
-    requires { (well_formed start ≡ true) × (length schedule.now ≤ length entries.old) }
+    requires formed { well_formed start ≡ true }
+    requires room { length schedule.now ≤ length entries.old }
     ensures value { result ≡ answer_of (course_of start schedule.now) }
     ensures entries_after { entries.new ≡ in_front (entered_in (course_of start schedule.now).turns) entries.old }
 {
     let mut t = start;
     let mut moved: usize = 0;
     let mut entered: usize = 0;
-    let mut k: usize = 0;
-    while k < schedule.len() {
-        let i = schedule[k];
-        let next = k + 1;
+    for (k, &i) in schedule.iter().enumerate() {
         if !fields::number_within(1, t.n, i) {
-            return ended(t, moved, entered, k, refusal::BAD_PROCESS_NUMBER);
+            return ended(t, moved, entered, k, Some(Refusal::BadProcessNumber));
         }
         let p = place_of(i);
         let line = t.rows[p].core.line;
         let q = place_of(t.rows[p].core.index);
-        let other = t.rows[q];
-        let s = seen_in(Value(t.x), other.core);
+        let seen = seen_in(Value(t.x), t.rows[q].core);
+        let process = Process {
+            algorithm: t.algorithm,
+            n: t.n,
+            i,
+            seen,
+        };
         match line {
             2 => {
                 let r = t.rows[p];
-                let w = line_2(t.n, s, r.core);
-                let row = with_read(s, w.core, r);
-                t.rows[p] = row;
+                let w = process.line_2(r.core);
+                t.rows[p] = with_read(seen, w.core, r);
                 moved += 1;
             }
             4 => {
                 let r = t.rows[p];
-                let w = line_4(next_of(t.algorithm, t.n, r), s, r.core);
-                if w.stop > refusal::NO_REFUSAL {
+                let w = process.line_4(next_of(t.algorithm, t.n, r), r.core);
+                if w.stop.is_some() {
                     return ended(t, moved, entered, k, w.stop);
                 }
-                let row = cleared(w.core);
-                t.rows[p] = row;
+                t.rows[p] = cleared(w.core);
                 moved += 1;
             }
             6..=7 => {
                 let r = t.rows[p];
-                let w = waiting_line(t.algorithm, t.n, i, s, r.core);
+                let w = process.waiting_line(r.core);
                 if w.mark == MOVED {
-                    let row = with_core(w.core, r);
-                    t.rows[p] = row;
+                    t.rows[p] = with_core(w.core, r);
                     moved += 1;
                 }
             }
             _ => {
                 let r = t.rows[p];
-                let w = other_line(t.n, i, s, r.core);
+                let w = process.other_line(r.core);
                 entered = note_entry(entries, entered, line, i);
-                let row = with_core(w.core, r);
-                t.rows[p] = row;
+                t.rows[p] = with_core(w.core, r);
                 t.x = w.x;
                 moved += 1;
             }
         }
-        k = next;
     }
-    ended(t, moved, entered, k, refusal::NO_REFUSAL)
+    ended(t, moved, entered, schedule.len(), None)
 }
 
 // A run over a schedule from a table: refusals 3, 6, 7, then 4 or 5 byte by byte. Each entry's process number goes to the front of the lent
@@ -157,13 +140,13 @@ pub fn run(t: Table, schedule: &[u8], entries: &mut [u8]) -> Ran
     ensures entries_after { entries.new ≡ buffer_of t schedule.now entries.old }
 {
     if !table::well_formed(t) {
-        return refused(t, refusal::NOT_WELL_FORMED);
+        return refused(t, Refusal::NotWellFormed);
     }
     if schedule.len() > SCHEDULE_LIMIT {
-        return refused(t, refusal::SCHEDULE_TOO_LONG);
+        return refused(t, Refusal::ScheduleTooLong);
     }
     if schedule.len() > entries.len() {
-        return refused(t, refusal::ENTRIES_TOO_SHORT);
+        return refused(t, Refusal::EntriesTooShort);
     }
     course(t, schedule, entries)
 }

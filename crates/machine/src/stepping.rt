@@ -4,17 +4,17 @@ ghost use Rattle.machine.specs.Step.{refused_step, step_of};
 
 use crate::Stepped;
 use crate::running::course;
-use fields::refusal;
+use fields::Refusal;
 use table::Table;
 
 // A table that is not well formed is given back.
-fn refused(t: Table, stop: u8) -> Stepped
-    ensures { result ≡ refused_step t stop }
+fn refused(t: Table, refusal: Refusal) -> Stepped
+    ensures { result ≡ refused_step t (Some refusal) }
 {
     Stepped {
         table: t,
         mark: 0,
-        stop,
+        stop: Some(refusal),
     }
 }
 
@@ -23,13 +23,12 @@ pub fn step(t: Table, process: u8) -> Stepped
     ensures { result ≡ step_of t process }
 {
     if !table::well_formed(t) {
-        return refused(t, refusal::NOT_WELL_FORMED);
+        return refused(t, Refusal::NotWellFormed);
     }
     let mut entries = [0];
     let r = course(t, &[process], &mut entries);
-    let table = r.table;
     Stepped {
-        table,
+        table: r.table,
         mark: r.moved as u8,
         stop: r.stop,
     }

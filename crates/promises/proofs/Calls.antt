@@ -3,9 +3,11 @@ use mathlib.Core.Path.{◌≡◌, ◌∙◌, sym}
 use lib.IntN.{ℤ}
 use Rattle.fields.specs.declared.Value.{Value}
 use Rattle.promises.specs.Calls.{ValueOfNumberRelied, ValueEqualsRelied, ValueIsBelowRelied, ValueIsNoneRelied, NumberWithinRelied}
+use Rattle.promises.specs.Calls.{RefusalNumberRelied, StopNumberRelied, RefusalEqRelied}
 use Rattle.promises.specs.Calls.{LimitOfRelied, AlgorithmOkRelied, CountOkRelied, XOkRelied, LineOkRelied, IndexOkRelied}
 use Rattle.promises.specs.Calls.{ChoosingOkRelied, TokenOkRelied, PivotOkRelied, MayHoldRelied, CellOkRelied, XOfRelied}
 use Rattle.promises.specs.Calls.{TokenOfRelied, PivotOfRelied, WellFormedRelied, FreshRelied, NextTokenRelied, GoesBeforeRelied}
+use Rattle.promises.specs.Calls.{CoreEqRelied, RowEqRelied, TableEqRelied}
 use Rattle.promises.specs.Calls.{StepRelied, RunRelied, WriteRelied, ReadRelied, ListRelied}
 
 -- two answers that are both the definition's
@@ -27,6 +29,15 @@ value_is_below_relied = record { every_input = λ κs given. tt; one_answer = sa
 
 pub value_is_none_relied : ValueIsNoneRelied
 value_is_none_relied = record { every_input = λ κs given. tt; one_answer = same }
+
+pub refusal_number_relied : RefusalNumberRelied
+refusal_number_relied = record { every_input = λ κs given. tt; one_answer = same }
+
+pub stop_number_relied : StopNumberRelied
+stop_number_relied = record { every_input = λ κs given. tt; one_answer = same }
+
+pub refusal_eq_relied : RefusalEqRelied
+refusal_eq_relied = record { every_input = λ κs given. tt; one_answer = same }
 
 pub number_within_relied : NumberWithinRelied
 number_within_relied = record { every_input = λ κs given. tt; one_answer = same }
@@ -63,6 +74,15 @@ may_hold_relied = record { every_input = λ κs given. tt; one_answer = same }
 
 pub cell_ok_relied : CellOkRelied
 cell_ok_relied = record { every_input = λ κs given. tt; one_answer = same }
+
+pub core_eq_relied : CoreEqRelied
+core_eq_relied = record { every_input = λ κs given. tt; one_answer = same }
+
+pub row_eq_relied : RowEqRelied
+row_eq_relied = record { every_input = λ κs given. tt; one_answer = same }
+
+pub table_eq_relied : TableEqRelied
+table_eq_relied = record { every_input = λ κs given. tt; one_answer = same }
 
 pub x_of_relied : XOfRelied
 x_of_relied = record { every_input = λ κs given. tt; one_answer = same_value }

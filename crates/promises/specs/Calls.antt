@@ -2,6 +2,9 @@
 -- contract asks and what it promises, as its callers have them: the promise here is the contract's own. `C.Kinds` are its parameters and
 -- its result, and the number before them is that of its lifetimes.
 use Rattle.fields.proofs.Value
+use Rattle.fields.proofs.Refusal
+use Rattle.fields.proofs.RefusalPartialEq
+use Rattle.fields.proofs.stop_number
 use Rattle.fields.proofs.number_within
 use Rattle.fields.proofs.limit_of
 use Rattle.fields.proofs.algorithm_ok
@@ -14,6 +17,9 @@ use Rattle.fields.proofs.token_ok
 use Rattle.fields.proofs.pivot_ok
 use Rattle.fields.proofs.may_hold
 use Rattle.fields.proofs.cell_ok
+use Rattle.table.proofs.CorePartialEq
+use Rattle.table.proofs.RowPartialEq
+use Rattle.table.proofs.TablePartialEq
 use Rattle.table.proofs.x_of
 use Rattle.table.proofs.token_of
 use Rattle.table.proofs.pivot_of
@@ -40,6 +46,16 @@ ValueIsBelowRelied = Answers 0 Value.is_below.Kinds.ps Value.is_below.Kinds.r Va
 
 abbrev pub ValueIsNoneRelied : Type 0
 ValueIsNoneRelied = Answers 0 Value.is_none.Kinds.ps Value.is_none.Kinds.r Value.is_none.Reads.Asked Value.is_none.Reads.Learnt
+
+-- `fields`: the number of a refusal and of a call's stop, and whether two refusals are the same
+abbrev pub RefusalNumberRelied : Type 0
+RefusalNumberRelied = Answers 0 Refusal.number.Kinds.ps Refusal.number.Kinds.r Refusal.number.Reads.Asked Refusal.number.Reads.Learnt
+
+abbrev pub StopNumberRelied : Type 0
+StopNumberRelied = Answers 0 stop_number.Kinds.ps stop_number.Kinds.r stop_number.Reads.Asked stop_number.Reads.Learnt
+
+abbrev pub RefusalEqRelied : Type 0
+RefusalEqRelied = Answers 2 RefusalPartialEq.eq.Kinds.ps RefusalPartialEq.eq.Kinds.r RefusalPartialEq.eq.Reads.Asked RefusalPartialEq.eq.Reads.Learnt
 
 -- `fields`: what the rules are said in, and the rule of each field
 abbrev pub NumberWithinRelied : Type 0
@@ -77,6 +93,16 @@ MayHoldRelied = Answers 0 may_hold.Kinds.ps may_hold.Kinds.r may_hold.Reads.Aske
 
 abbrev pub CellOkRelied : Type 0
 CellOkRelied = Answers 0 cell_ok.Kinds.ps cell_ok.Kinds.r cell_ok.Reads.Asked cell_ok.Reads.Learnt
+
+-- `table`: whether two of them are equal: `==` at cores, rows and tables, which the derives make
+abbrev pub CoreEqRelied : Type 0
+CoreEqRelied = Answers 2 CorePartialEq.eq.Kinds.ps CorePartialEq.eq.Kinds.r CorePartialEq.eq.Reads.Asked CorePartialEq.eq.Reads.Learnt
+
+abbrev pub RowEqRelied : Type 0
+RowEqRelied = Answers 2 RowPartialEq.eq.Kinds.ps RowPartialEq.eq.Kinds.r RowPartialEq.eq.Reads.Asked RowPartialEq.eq.Reads.Learnt
+
+abbrev pub TableEqRelied : Type 0
+TableEqRelied = Answers 2 TablePartialEq.eq.Kinds.ps TablePartialEq.eq.Kinds.r TablePartialEq.eq.Reads.Asked TablePartialEq.eq.Reads.Learnt
 
 -- `table`: the numbers of a table and of a core, when a table is well formed, a fresh table
 abbrev pub XOfRelied : Type 0

@@ -6,6 +6,7 @@ use mathlib.Core.List.{List}
 use native.Mathlib.Omega.{arith}
 use borrow.Author.Tests.{le-leb, leb-true, eq-eqb, eqb-true}
 use lib.ListN.{length}
+use Rattle.std.specs.Prelude.{Ok}
 use Rattle.laws.proofs.Tests.{◌and◌, within_yes}
 use Rattle.fields.specs.Numbers.{slots}
 use Rattle.table.specs.WellFormed.{cell_rule}
@@ -14,7 +15,6 @@ use Rattle.stored.specs.Form.{head_kind, row_kind, cells_kind, head_length, form
 use Rattle.stored.specs.Fields.{byte_at, row_place, cells_place, count_in, top_in, row_in, table_in}
 use Rattle.stored.specs.Reading.{first_fault, start_checks, head_checks, length_checks, opening_checks, fields_checks, row_checks}
 use Rattle.stored.specs.Reading.{cell_keeps, cell_check, cells_checks, records_checks, checks_of}
-use Rattle.stored.specs.declared.Search.TheVariants.{Nothing}
 use Rattle.stored.proofs.Checks.{Hold, hold_no_fault, no_fault_hold, turn_holds, turns_hold}
 use Rattle.stored.proofs.TableIn.{cell_in_lem, row_in_lem, table_in_rules}
 
@@ -95,11 +95,11 @@ module _ (s : List ℕ) where
       and le-leb (length s) (form_length (count_in s)) (omega (arith, frame.long))
       and turns_hold (records_checks s) (count_in s) (λ i low high. kept_records i (kept i low high))
 
-  pub accepted_framed : first_fault (checks_of s) ≡ Nothing → Framed s
+  pub accepted_framed : first_fault (checks_of s) ≡ Ok tt → Framed s
   accepted_framed e = (checks_kept (no_fault_hold (checks_of s) e)).0
 
-  pub accepted_rules : first_fault (checks_of s) ≡ Nothing → TableRules (table_in s)
+  pub accepted_rules : first_fault (checks_of s) ≡ Ok tt → TableRules (table_in s)
   accepted_rules e = (checks_kept (no_fault_hold (checks_of s) e)).1
 
-  pub framed_accepted : Framed s → TableRules (table_in s) → first_fault (checks_of s) ≡ Nothing
+  pub framed_accepted : Framed s → TableRules (table_in s) → first_fault (checks_of s) ≡ Ok tt
   framed_accepted frame rules = hold_no_fault (checks_of s) (kept_checks frame rules)

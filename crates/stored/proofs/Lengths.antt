@@ -1,5 +1,5 @@
 -- The lengths of a number, of the records and of the form.
-use Prim.Native.Nat.{ℕ, ◌+◌}
+use Prim.Native.Nat.{ℕ, ◌+◌, ◌*◌}
 use mathlib.Core.Path.{◌≡◌, refl, ◌∙◌}
 use lib.IntN.{ℤ}
 use lib.ListN.{length, length-append}
@@ -36,8 +36,11 @@ records_length t i =
     let r = row_of t i in
     length-append (row_record i r.core) (cells_record i r) ∙ rw (row_length_lem i r.core, cells_length_lem i r)
 
+-- the records of the first k processes
+pub passed_length : (t : Table) (k : ℕ) → length (in_turn (records_of t) k) ≡ (row_length + cells_length) * k
+passed_length t k = turn_length (records_of t) (row_length + cells_length) (records_length t) k
+
 pub encode_length : (t : Table) → length (encode t) ≡ form_length t.n
 unfolding encode
 encode_length t =
-    length-append (head_record t) (in_turn (records_of t) t.n)
-    ∙ rw (head_length_lem t, turn_length (records_of t) (row_length + cells_length) (records_length t) t.n)
+    length-append (head_record t) (in_turn (records_of t) t.n) ∙ rw (head_length_lem t, passed_length t t.n)

@@ -8,6 +8,7 @@ pub mod TableIn
 pub mod Checks
 pub mod Accepted
 pub mod Records
+pub mod Numbered
 pub mod ReadBack
 pub mod WrittenAgain
 pub mod RoundTrips

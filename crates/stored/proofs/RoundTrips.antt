@@ -4,8 +4,8 @@ use Prim.Native.Nat.{ℕ, ◌<◌}
 use mathlib.Core.Path.{◌≡◌, refl}
 use mathlib.Core.Bool.{true}
 use mathlib.Core.List.{List}
-use native.Mathlib.Omega.{arith}
 use lib.ListN.{length}
+use Rattle.std.specs.Prelude.{Result, Ok, Err}
 use Rattle.fields.specs.Numbers.{unbounded}
 use Rattle.fields.specs.Refusals.{no_refusal}
 use Rattle.table.specs.WellFormed.{well_formed}
@@ -18,8 +18,7 @@ use Rattle.stored.specs.Reading.{refusal_of, first_fault, checks_of, answer_to, 
 use Rattle.stored.specs.declared.Fault.{Fault}
 use Rattle.stored.specs.declared.Fault.TheVariants.{TooShort, TooLong, Kind, HeadField, Process, Line, Index, Choosing, Token}
 use Rattle.stored.specs.declared.Fault.TheVariants.{Pivot, Cell}
-use Rattle.stored.specs.declared.Search.{Search}
-use Rattle.stored.specs.declared.Search.TheVariants.{Found, Nothing}
+use Rattle.stored.specs.declared.Found.{Found}
 use Rattle.stored.proofs.Lengths.{encode_length}
 use Rattle.stored.proofs.Records.{form_records}
 use Rattle.stored.proofs.Accepted.{accepted_framed, accepted_rules, framed_accepted}
@@ -28,7 +27,7 @@ use Rattle.stored.proofs.WrittenAgain.{framed_again}
 
 -- The form of a well-formed table is accepted, and the table in it is that table: so `read` answers it.
 module _ (t : Table) (formed : well_formed t ≡ true) where
-  pub form_accepted : first_fault (checks_of (encode t)) ≡ Nothing
+  pub form_accepted : first_fault (checks_of (encode t)) ≡ Ok tt
   form_accepted =
       let rules = table_rules t formed in
       framed_accepted (encode t) (frame_read (form_records t) rules (encode_length t)) (rules_read (form_records t) rules)
@@ -41,7 +40,7 @@ module _ (t : Table) (formed : well_formed t ≡ true) where
   form_read sized = rw (form_accepted, read_back sized, encode_length t)
 
 -- An accepted form holds a well-formed table, which `read` answers, and which is written again as the same bytes.
-module _ (s : List ℕ) (accepted : first_fault (checks_of s) ≡ Nothing) where
+module _ (s : List ℕ) (accepted : first_fault (checks_of s) ≡ Ok tt) where
   pub accepted_well_formed : well_formed (table_in s) ≡ true
   accepted_well_formed = well_formed_lem (table_in s) (accepted_rules s accepted)
 
@@ -57,30 +56,30 @@ pub read_well_formed : (s : List ℕ) → well_formed (read_of s).table ≡ true
 unfolding read_of answer_to
 read_well_formed s = shown (first_fault (checks_of s)) (accepted_well_formed s)
   where
-    shown : (found : Search) → (found ≡ Nothing → well_formed (table_in s) ≡ true) → well_formed (answer_to s found).table ≡ true
-    shown Nothing accepted = accepted refl
-    shown (Found fault place) accepted = fresh_well_formed unbounded 1 refl refl
+    shown : (r : Result (Unit {0}) Found) → (r ≡ Ok tt → well_formed (table_in s) ≡ true) → well_formed (answer_to s r).table ≡ true
+    shown (Ok done) accepted = accepted refl
+    shown (Err found) accepted = fresh_well_formed unbounded 1 refl refl
 
 -- every fault has a number that is not 0
 fault_numbered : (fault : Fault) → refusal_of fault ≡ no_refusal → ⊥
 unfolding refusal_of
-fault_numbered TooShort e = omega arith
-fault_numbered TooLong e = omega arith
-fault_numbered Kind e = omega arith
-fault_numbered HeadField e = omega arith
-fault_numbered Process e = omega arith
-fault_numbered Line e = omega arith
-fault_numbered Index e = omega arith
-fault_numbered Choosing e = omega arith
-fault_numbered Token e = omega arith
-fault_numbered Pivot e = omega arith
-fault_numbered Cell e = omega arith
+fault_numbered TooShort e = cc
+fault_numbered TooLong e = cc
+fault_numbered Kind e = cc
+fault_numbered HeadField e = cc
+fault_numbered Process e = cc
+fault_numbered Line e = cc
+fault_numbered Index e = cc
+fault_numbered Choosing e = cc
+fault_numbered Token e = cc
+fault_numbered Pivot e = cc
+fault_numbered Cell e = cc
 
 -- Stop number 0 says that the form is accepted.
-pub read_accepted : (s : List ℕ) → (read_of s).stop ≡ no_refusal → first_fault (checks_of s) ≡ Nothing
+pub read_accepted : (s : List ℕ) → (read_of s).stop ≡ no_refusal → first_fault (checks_of s) ≡ Ok tt
 unfolding read_of answer_to
 read_accepted s = none_found (first_fault (checks_of s))
   where
-    none_found : (found : Search) → (answer_to s found).stop ≡ no_refusal → found ≡ Nothing
-    none_found Nothing e = refl
-    none_found (Found fault place) e = absurd (fault_numbered fault e)
+    none_found : (r : Result (Unit {0}) Found) → (answer_to s r).stop ≡ no_refusal → r ≡ Ok tt
+    none_found (Ok done) e = refl
+    none_found (Err found) e = absurd (fault_numbered found.fault e)

@@ -4,12 +4,13 @@ use mathlib.Core.Path.{◌≡◌}
 use mathlib.Core.Bool.{true, false}
 use mathlib.Core.List.{List}
 use native.Mathlib.Omega.{arith}
-use borrow.Author.Tests.{le-leb, lt-leb, leb-true, eqb-true}
-use lib.Dec.{leb, eqb}
+use borrow.Author.Tests.{le-leb, lt-leb, leb-true}
+use lib.Dec.{leb}
 use lib.ListN.{length}
 use Rattle.laws.specs.Lent.{in_front}
 use Rattle.laws.proofs.Tests.{by_test}
-use Rattle.fields.specs.Refusals.{no_refusal, not_well_formed, buffer_too_short}
+use Rattle.fields.proofs.Stops.{accepted_none}
+use Rattle.fields.specs.Refusals.{Stop, no_refusal, not_well_formed, buffer_too_short, is_accepted}
 use Rattle.table.specs.WellFormed.{well_formed}
 use Rattle.table.specs.declared.Table.{Table}
 use Rattle.stored.specs.Form.{encode, form_length}
@@ -31,10 +32,10 @@ module _ (t : Table) (buffer : List ℕ) where
   pub accepted_write : write_refusal t buffer ≡ no_refusal → (well_formed t ≡ true) × (form_length t.n ≤ length buffer)
   unfolding write_refusal
   accepted_write =
-      by_test (λ (stop : ℕ). stop ≡ no_refusal → (well_formed t ≡ true) × (form_length t.n ≤ length buffer)) (well_formed t)
-      (λ formed. by_test (λ (stop : ℕ). stop ≡ no_refusal → (well_formed t ≡ true) × (form_length t.n ≤ length buffer))
-      (leb (form_length t.n) (length buffer)) (λ room _. (formed, leb-true _ _ room)) (λ _ e. absurd (omega arith)))
-      (λ _ e. absurd (omega arith))
+      by_test (λ (stop : Stop). stop ≡ no_refusal → (well_formed t ≡ true) × (form_length t.n ≤ length buffer)) (well_formed t)
+      (λ formed. by_test (λ (stop : Stop). stop ≡ no_refusal → (well_formed t ≡ true) × (form_length t.n ≤ length buffer))
+      (leb (form_length t.n) (length buffer)) (λ room _. (formed, leb-true _ _ room)) (λ _ e. cc))
+      (λ _ e. cc)
 
   module _ (accepted : write_refusal t buffer ≡ no_refusal) where
     pub write_answer : write_of t buffer ≡ record { length = form_length t.n; stop = no_refusal }
@@ -49,6 +50,6 @@ module _ (t : Table) (buffer : List ℕ) where
   pub written_within : (write_of t buffer).length ≤ length buffer
   unfolding write_of
   written_within =
-      by_test (λ (l : ℕ). l ≤ length buffer) (eqb (write_refusal t buffer) no_refusal)
-      (λ accepted. (accepted_write (eqb-true _ _ accepted)).1)
+      by_test (λ (l : ℕ). l ≤ length buffer) (is_accepted (write_refusal t buffer))
+      (λ accepted. (accepted_write (accepted_none _ accepted)).1)
       (λ _. omega arith)

@@ -1,8 +1,8 @@
 -- Document 01, "Numbered refusals": the checks of `read` in their order, and its answer.
-use Rattle.std.specs.Prelude.{ℕ, ◌+◌, Bool, cond, List, [], ◌∷◌, ◌++◌, leb, eqb, length}
+use Rattle.std.specs.Prelude.{ℕ, ◌+◌, Bool, cond, List, [], ◌∷◌, ◌++◌, leb, eqb, length, Result, Ok, Err}
 use Rattle.laws.specs.InTurn.{in_turn}
 use Rattle.fields.specs.Numbers.{slots, unbounded}
-use Rattle.fields.specs.Refusals.{no_refusal, form_too_short, wrong_kind, form_too_long, bad_field}
+use Rattle.fields.specs.Refusals.{Stop, no_refusal, form_too_short, wrong_kind, form_too_long, bad_field}
 use Rattle.fields.specs.Rules.{algorithm_ok, count_ok, x_ok, line_ok, index_ok, choosing_ok, token_ok, pivot_ok, may_hold, cell_ok}
 use Rattle.table.specs.Fresh.{fresh_table}
 use Rattle.stored.specs.Form.{head_kind, row_kind, cells_kind, head_length, form_length}
@@ -12,12 +12,11 @@ use Rattle.stored.specs.Fields.{choosing_in, token_in, pivot_in, cell_in, table_
 use Rattle.stored.specs.declared.Fault.{Fault}
 use Rattle.stored.specs.declared.Fault.TheVariants.{TooShort, TooLong, Kind, HeadField, Process, Line, Index, Choosing}
 use Rattle.stored.specs.declared.Fault.TheVariants.{Token, Pivot, Cell}
-use Rattle.stored.specs.declared.Search.{Search}
-use Rattle.stored.specs.declared.Search.TheVariants.{Found, Nothing}
+use Rattle.stored.specs.declared.Found.{Found}
 use Rattle.stored.specs.declared.Restored.{Restored}
 
 -- The number of each fault. "a field that breaks its rule, or a process number out of order" is 12, whichever it is.
-unfoldable pub refusal_of : Fault → ℕ
+unfoldable pub refusal_of : Fault → Stop
 refusal_of TooShort = form_too_short
 refusal_of TooLong = form_too_long
 refusal_of Kind = wrong_kind
@@ -35,9 +34,9 @@ pub data Check : Type 0 where
   check : Bool → Fault → ℕ → Check
 
 -- "The first faulty record ends the search": the first check that does not hold.
-unfoldable pub first_fault : List Check → Search
-first_fault [] = Nothing
-first_fault (check holds fault place ∷ later) = cond holds (first_fault later) (Found fault place)
+unfoldable pub first_fault : List Check → Result (Unit {0}) Found
+first_fault [] = Ok tt
+first_fault (check holds fault place ∷ later) = cond holds (first_fault later) (Err (record { fault = fault; place = place }))
 
 -- "under 7 bytes"
 unfoldable pub start_checks : List ℕ → List Check
@@ -108,9 +107,9 @@ abbrev pub accepted_read : List ℕ → Restored
 accepted_read s = record { table = table_in s; stop = no_refusal; place = length s }
 
 -- what a search comes to
-unfoldable pub answer_to : List ℕ → Search → Restored
-answer_to s (Found fault place) = refused_read fault place
-answer_to s Nothing = accepted_read s
+unfoldable pub answer_to : List ℕ → Result (Unit {0}) Found → Restored
+answer_to s (Err found) = refused_read found.fault found.place
+answer_to s (Ok done) = accepted_read s
 
 -- the answer of `read`
 unfoldable pub read_of : List ℕ → Restored

@@ -8,6 +8,7 @@ mod places;
 mod reading;
 mod writing;
 
+use fields::Refusal;
 pub use reading::read;
 use table::Table;
 pub use writing::write;
@@ -47,14 +48,14 @@ const PIVOT_PLACE: usize = 9;
 #[derive(Clone, Copy)]
 pub struct Wrote {
     pub length: usize,
-    pub stop: u8,
+    pub stop: Option<Refusal>,
 }
 
 // The answer of `read`.
 #[derive(Clone, Copy)]
 pub struct Restored {
     pub table: Table,
-    pub stop: u8,
+    pub stop: Option<Refusal>,
     pub place: usize,
 }
 
@@ -74,9 +75,9 @@ enum Fault {
     Cell,
 }
 
-// What a search for a fault comes to: the first fault and its place, or nothing.
+// The first fault of a form: what is at fault, and its place.
 #[derive(Clone, Copy)]
-enum Search {
-    Found(Fault, usize),
-    Nothing,
+struct Found {
+    fault: Fault,
+    place: usize,
 }

@@ -1,117 +1,77 @@
-// Writing a table: the records of its stored form one after another to the front of a lent buffer.
-ghost use Rattle.std.specs.Prelude.{◌≡◌, true, [], ◌∷◌, ◌+◌, ◌*◌, ◌<◌, ◌≤◌, length};
+// Writing a table: the records of its stored form, copied one after another to the front of a lent buffer.
+ghost use Rattle.std.specs.Prelude.{◌≡◌, ◌+◌, ◌≤◌, length};
 ghost use Rattle.laws.specs.Lent.{Written};
-ghost use Rattle.laws.specs.InTurn.{in_turn};
 ghost use Rattle.fields.specs.Numbers.{slots};
-ghost use Rattle.table.specs.WellFormed.{well_formed, cell_of};
-ghost use Rattle.stored.specs.FourBytes.{four_bytes};
-ghost use Rattle.stored.specs.Form.{head_record, row_record, cells_record, records_of, encode, head_length, row_length};
-ghost use Rattle.stored.specs.Form.{cells_length, form_length};
+ghost use Rattle.stored.specs.Form.{head_record, row_record, cells_record, encode, form_length};
 ghost use Rattle.stored.specs.Writing.{write_of, buffer_of};
 
-use crate::bytes::{put_byte, put_number};
 use crate::places::form_length;
-use crate::{CELLS_KIND, HEAD_KIND, ROW_KIND, Wrote};
-use fields::{SLOTS, Value, refusal};
+use crate::{
+    ALGORITHM_PLACE, CELLS_KIND, CELLS_LENGTH, CHOOSING_PLACE, COUNT_PLACE, HEAD_KIND, HEAD_LENGTH,
+    INDEX_PLACE, LINE_PLACE, PIVOT_PLACE, ROW_KIND, ROW_LENGTH, TOKEN_PLACE, Wrote, X_PLACE,
+};
+use fields::Refusal;
 use table::{Core, Row, Table};
 
-// Here and in `put_row` a place has the name of the field that goes there.
-fn put_head(buffer: &mut [u8], t: Table) -> usize
-    requires { head_length ≤ length buffer.old }
-    ensures { Written buffer.old 0 (head_record t) buffer.new result }
+fn head_record(t: Table) -> [u8; HEAD_LENGTH]
+    ensures { result ≡ head_record t }
 {
-    let algorithm = put_byte(buffer, 0, HEAD_KIND);
-    let count = put_byte(buffer, algorithm, t.algorithm);
-    let x = put_byte(buffer, count, t.n);
-    put_number(buffer, x, table::x_of(t))
+    let mut record = [0; HEAD_LENGTH];
+    record[0] = HEAD_KIND;
+    record[ALGORITHM_PLACE] = t.algorithm;
+    record[COUNT_PLACE] = t.n;
+    record[X_PLACE..].copy_from_slice(&t.x.to_le_bytes());
+    record
 }
 
-// How a record of a process opens: its kind, and the process number.
-fn put_opening(buffer: &mut [u8], at: usize, kind: u8, process: u8) -> usize
-    requires { at + 2 ≤ length buffer.old }
-    ensures { Written buffer.old at (kind ∷ process ∷ []) buffer.new result }
+fn row_record(process: u8, core: Core) -> [u8; ROW_LENGTH]
+    ensures { result ≡ row_record process core }
 {
-    let number = put_byte(buffer, at, kind);
-    put_byte(buffer, number, process)
+    let mut record = [0; ROW_LENGTH];
+    record[0] = ROW_KIND;
+    record[1] = process;
+    record[LINE_PLACE] = core.line;
+    record[INDEX_PLACE] = core.index;
+    record[CHOOSING_PLACE] = core.choosing;
+    record[TOKEN_PLACE..PIVOT_PLACE].copy_from_slice(&core.token.to_le_bytes());
+    record[PIVOT_PLACE..].copy_from_slice(&core.pivot.to_le_bytes());
+    record
 }
 
-fn put_row(buffer: &mut [u8], at: usize, process: u8, c: Core) -> usize
-    requires { at + row_length ≤ length buffer.old }
-    ensures { Written buffer.old at (row_record process c) buffer.new result }
+fn cells_record(process: u8, row: Row) -> [u8; CELLS_LENGTH]
+    ensures { result ≡ cells_record process row }
 {
-    let line = put_opening(buffer, at, ROW_KIND, process);
-    let index = put_byte(buffer, line, c.line);
-    let choosing = put_byte(buffer, index, c.index);
-    let token = put_byte(buffer, choosing, c.choosing);
-    let pivot = put_number(buffer, token, table::token_of(c));
-    put_number(buffer, pivot, table::pivot_of(c))
-}
-
-fn put_cell_numbers(buffer: &mut [u8], at: usize, r: Row) -> usize
-    requires { at + 4 * slots ≤ length buffer.old }
-    ensures { Written buffer.old at (in_turn (λ j. four_bytes (cell_of r j)) slots) buffer.new result }
-{
-    let cells = r.cells;
-    let mut next = at;
-    let mut k: usize = 0;
-    while k < SLOTS {
-        next = put_number(buffer, next, Value(cells[k]));
-        k += 1;
+    let mut record = [0; CELLS_LENGTH];
+    record[0] = CELLS_KIND;
+    record[1] = process;
+    for (k, cell) in row.cells.iter().enumerate() {
+        let at = 2 + 4 * k;
+        record[at..at + 4].copy_from_slice(&cell.to_le_bytes());
     }
+    record
+}
+
+// Copies a piece to the buffer from a place on, and answers the place after it.
+fn put(buffer: &mut [u8], at: usize, piece: &[u8]) -> usize
+    requires { at + length piece.now ≤ length buffer.old }
+    ensures { Written buffer.old at piece.now buffer.new result }
+{
+    let next = at + piece.len();
+    buffer[at..next].copy_from_slice(piece);
     next
-}
-
-fn put_cells(buffer: &mut [u8], at: usize, process: u8, r: Row) -> usize
-    requires { at + cells_length ≤ length buffer.old }
-    ensures { Written buffer.old at (cells_record process r) buffer.new result }
-{
-    let first = put_opening(buffer, at, CELLS_KIND, process);
-    put_cell_numbers(buffer, first, r)
-}
-
-// The two records of the process at place k, which is process k + 1.
-fn put_records(buffer: &mut [u8], at: usize, t: Table, k: usize) -> usize
-    requires { (k < slots) × (at + (row_length + cells_length) ≤ length buffer.old) }
-    ensures { Written buffer.old at (records_of t (k + 1)) buffer.new result }
-{
-    let process = (k as u8) + 1;
-    let r = t.rows[k];
-    let cells = put_row(buffer, at, process, r.core);
-    put_cells(buffer, cells, process, r)
 }
 
 fn put_form(buffer: &mut [u8], t: Table) -> usize
-    requires { (t.n ≤ slots) × (form_length t.n ≤ length buffer.old) }
+    requires rows { t.n ≤ slots }
+    requires room { form_length t.n ≤ length buffer.old }
     ensures { Written buffer.old 0 (encode t) buffer.new result }
 {
-    let count = t.n as usize;
-    let mut next = put_head(buffer, t);
-    let mut k: usize = 0;
-    while k < count {
-        next = put_records(buffer, next, t, k);
-        k += 1;
+    let mut next = put(buffer, 0, &head_record(t));
+    for (process, row) in (1..=t.n).zip(&t.rows) {
+        next = put(buffer, next, &row_record(process, row.core));
+        next = put(buffer, next, &cells_record(process, *row));
     }
     next
-}
-
-// Writes a well-formed table: refusal 8 where the lent buffer is shorter than the form.
-fn write_formed(t: Table, buffer: &mut [u8]) -> Wrote
-    requires { (well_formed t ≡ true) × (t.n ≤ slots) }
-    ensures value { result ≡ write_of t buffer.old }
-    ensures buffer_after { buffer.new ≡ buffer_of t buffer.old }
-{
-    let due = form_length(t.n);
-    if buffer.len() < due {
-        return Wrote {
-            length: 0,
-            stop: refusal::BUFFER_TOO_SHORT,
-        };
-    }
-    let length = put_form(buffer, t);
-    Wrote {
-        length,
-        stop: refusal::NO_REFUSAL,
-    }
 }
 
 // Writes a table's stored form to the front of the lent buffer: refusals 3, then 8.
@@ -122,8 +82,16 @@ pub fn write(t: Table, buffer: &mut [u8]) -> Wrote
     if !table::well_formed(t) {
         return Wrote {
             length: 0,
-            stop: refusal::NOT_WELL_FORMED,
+            stop: Some(Refusal::NotWellFormed),
         };
     }
-    write_formed(t, buffer)
+    let due = form_length(t.n);
+    if buffer.len() < due {
+        return Wrote {
+            length: 0,
+            stop: Some(Refusal::BufferTooShort),
+        };
+    }
+    let length = put_form(buffer, t);
+    Wrote { length, stop: None }
 }

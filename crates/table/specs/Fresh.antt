@@ -1,7 +1,7 @@
 -- Document 01, "The table": a fresh table; and the answer of `fresh`.
 use Rattle.std.specs.Prelude.{ℕ, cond, List, ℤ, pos, replicate}
 use Rattle.fields.specs.Numbers.{slots, none, unbounded}
-use Rattle.fields.specs.Refusals.{no_refusal, bad_algorithm, bad_process_count}
+use Rattle.fields.specs.Refusals.{Stop, no_refusal, bad_algorithm, bad_process_count}
 use Rattle.fields.specs.Rules.{algorithm_ok, count_ok}
 use Rattle.table.specs.declared.Core.{Core}
 use Rattle.table.specs.declared.Row.{Row}
@@ -24,7 +24,7 @@ abbrev pub fresh_table : ℕ → ℕ → Table
 fresh_table algorithm n = record { algorithm = algorithm; n = n; x = pos 0; rows = replicate slots fresh_row }
 
 -- "refused, fresh and read show, in the table's place, the fresh unbounded table for n = 1"
-abbrev pub refused_fresh : ℕ → Started
+abbrev pub refused_fresh : Stop → Started
 refused_fresh stop = record { table = fresh_table unbounded 1; stop = stop }
 
 -- "Fresh: 1, 2."

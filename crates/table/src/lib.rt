@@ -6,11 +6,11 @@ mod rules;
 ghost use Rattle.std.specs.Prelude.{◌≡◌};
 ghost use Rattle.table.specs.Fresh.{fresh_table, refused_fresh, fresh_of};
 
-use fields::{NONE, SLOTS, UNBOUNDED, refusal};
+use fields::{NONE, Refusal, SLOTS, UNBOUNDED};
 pub use rules::{pivot_of, token_of, well_formed, x_of};
 
 // The core of a row, all but what it keeps of the tokens that it saw: "a line, an index, a choosing flag, a token, a pivot".
-#[derive(Clone, Copy)]
+#[derive(Clone, Copy, PartialEq, Eq)]
 pub struct Core {
     pub line: u8,
     pub index: u8,
@@ -20,14 +20,14 @@ pub struct Core {
 }
 
 // A row is its core "and sixteen read cells."
-#[derive(Clone, Copy)]
+#[derive(Clone, Copy, PartialEq, Eq)]
 pub struct Row {
     pub core: Core,
     pub cells: [i32; SLOTS],
 }
 
 // "Algorithm, n, X, and sixteen rows."
-#[derive(Clone, Copy)]
+#[derive(Clone, Copy, PartialEq, Eq)]
 pub struct Table {
     pub algorithm: u8,
     pub n: u8,
@@ -39,7 +39,7 @@ pub struct Table {
 #[derive(Clone, Copy)]
 pub struct Started {
     pub table: Table,
-    pub stop: u8,
+    pub stop: Option<Refusal>,
 }
 
 fn fresh_table(algorithm: u8, n: u8) -> Table
@@ -65,12 +65,12 @@ fn fresh_table(algorithm: u8, n: u8) -> Table
 }
 
 // A refusal shows, in the table's place, the fresh unbounded table for n = 1.
-fn refused(stop: u8) -> Started
-    ensures { result ≡ refused_fresh stop }
+fn refused(refusal: Refusal) -> Started
+    ensures { result ≡ refused_fresh (Some refusal) }
 {
     Started {
         table: fresh_table(UNBOUNDED, 1),
-        stop,
+        stop: Some(refusal),
     }
 }
 
@@ -79,13 +79,13 @@ pub fn fresh(algorithm: u8, n: u8) -> Started
     ensures { result ≡ fresh_of algorithm n }
 {
     if !fields::algorithm_ok(algorithm) {
-        return refused(refusal::BAD_ALGORITHM);
+        return refused(Refusal::BadAlgorithm);
     }
     if !fields::count_ok(n) {
-        return refused(refusal::BAD_PROCESS_COUNT);
+        return refused(Refusal::BadProcessCount);
     }
     Started {
         table: fresh_table(algorithm, n),
-        stop: refusal::NO_REFUSAL,
+        stop: None,
     }
 }

@@ -44,12 +44,7 @@ fn cell_at_ok(top: Value, n: u8, i: u8, r: Row, k: usize) -> bool
 fn cells_ok(top: Value, n: u8, i: u8, r: Row) -> bool
     ensures { result ≡ cells_ok top.0 n i r }
 {
-    for k in 0..SLOTS {
-        if !cell_at_ok(top, n, i, r, k) {
-            return false;
-        }
-    }
-    true
+    (0..SLOTS).all(|k| cell_at_ok(top, n, i, r, k))
 }
 
 fn core_ok(top: Value, n: u8, i: u8, c: Core) -> bool
@@ -80,12 +75,7 @@ fn row_at_ok(top: Value, t: Table, k: usize) -> bool
 fn rows_ok(top: Value, t: Table) -> bool
     ensures { result ≡ rows_ok top.0 t }
 {
-    for k in 0..SLOTS {
-        if !row_at_ok(top, t, k) {
-            return false;
-        }
-    }
-    true
+    (0..SLOTS).all(|k| row_at_ok(top, t, k))
 }
 
 // Whether document 01 calls the table well formed.

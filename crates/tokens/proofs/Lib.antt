@@ -1,4 +1,4 @@
-pub mod Signed
+pub mod Largest
 pub mod Remainder
 pub mod NextToken
 pub mod Answers

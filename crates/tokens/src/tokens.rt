@@ -1,165 +1,129 @@
 // A token of each of the two machines, as a type of its own.
-ghost use Rattle.std.specs.Prelude.{◌≡◌, map, length, pos, ◌+ℤ◌, ◌-ℤ◌};
+ghost use Rattle.std.specs.Prelude.{◌≡◌, cond, pos, ◌+ℤ◌, ◌-ℤ◌, MatchOption, false};
 ghost use Rattle.std.specs.Int.Signed.{lt_z};
-ghost use Rattle.std.specs.Int.{w32};
-ghost use Rattle.std.proofs.Common.{SFits};
-ghost use Rattle.fields.specs.Numbers.{slots, token_limit, modulus_of};
+ghost use Rattle.fields.specs.Numbers.{token_limit, modulus_of};
+ghost use Rattle.fields.specs.Rules.{count_ok};
 ghost use Rattle.tokens.specs.Count.{Count};
 ghost use Rattle.tokens.specs.Tokens.{remainder, largest, shifted, shifted_cell, next_b, before_ub, before_b};
 
-use crate::numbers::{Whole, largest, value_at};
-use fields::{NONE, SLOTS, TOKEN_LIMIT, Value};
+use fields::{NONE, SLOTS, TOKEN_LIMIT};
 
 // A token of UB-Bakery, and a token of B-Bakery, which is one modulo 2n - 1. Source 002 takes the one to the other by its mapping f; here
 // no function takes one of each.
 #[derive(Clone, Copy)]
-pub(crate) struct UbToken(i32);
+pub(crate) struct UbToken(pub(crate) i32);
 
 #[derive(Clone, Copy)]
-pub(crate) struct BToken(i32);
+pub(crate) struct BToken(pub(crate) i32);
 
 impl UbToken {
-    pub(crate) fn of(v: Value) -> UbToken
-        ensures { result.0 ≡ v.0 }
-    {
-        UbToken(v.0)
-    }
-
-    pub(crate) fn value(self) -> Value
-        ensures { result.0 ≡ self.0 }
-    {
-        Value(self.0)
-    }
-
     // The largest of the pivot and the read cells.
     pub(crate) fn largest(pivot: UbToken, cells: &[i32; SLOTS]) -> UbToken
-        requires { length cells.now ≡ slots }
         ensures { result.0 ≡ largest pivot.0 cells.now }
     {
-        UbToken::of(largest(pivot.value(), cells))
+        UbToken(cells.iter().copied().fold(pivot.0, i32::max))
     }
 
-    // 1 + the largest: it may be above the limit, so it is no token yet.
-    pub(crate) fn next(self) -> Whole
-        ensures { result.0 ≡ pos 1 +ℤ self.0 }
+    // 1 + this token, or none where that is above the limit.
+    pub(crate) fn next(self) -> Option<UbToken>
+        ensures { result ≡ cond (lt_z (pos token_limit) (pos 1 +ℤ self.0)) None (Some (record { 0 = pos 1 +ℤ self.0 })) }
     {
-        Whole::of_number(1).plus(Whole::of(self.value()))
-    }
-
-    // What refusal 5 is given for, and the token where it is not.
-    pub(crate) fn is_above_limit(next: Whole) -> bool
-        ensures { result ≡ lt_z (pos token_limit) next.0 }
-    {
-        (TOKEN_LIMIT as i64) < next.0
-    }
-
-    pub(crate) fn of_next(next: Whole) -> UbToken
-        requires { SFits w32 next.0 }
-        ensures { result.0 ≡ next.0 }
-    {
-        UbToken(next.0 as i32)
+        if self.0 >= TOKEN_LIMIT {
+            return None;
+        }
+        Some(UbToken(1 + self.0))
     }
 
     // Whether process i, which holds this token, goes before process j.
     pub(crate) fn goes_before(self, i: u8, other: UbToken, j: u8) -> bool
         ensures { result ≡ before_ub i self.0 j other.0 }
     {
-        let own = self.value();
-        let its = other.value();
-        own.is_below(its) | (own.equals(its) & (i < j))
+        (self.0, i) < (other.0, j)
     }
-}
-
-// M = 2n - 1.
-fn modulus(n: u8) -> u8
-    requires { Count n }
-    ensures { result ≡ modulus_of n }
-{
-    2 * n - 1
 }
 
 impl BToken {
-    pub(crate) fn of(v: Value) -> BToken
-        ensures { result.0 ≡ v.0 }
+    // Whether process i, which holds this token, goes before process j.
+    pub(crate) fn goes_before(self, count: ProcessCount, i: u8, other: BToken, j: u8) -> bool
+        ensures { result ≡ before_b count.n i self.0 j other.0 }
     {
-        BToken(v.0)
+        let d = count.remainder(i64::from(other.0) - i64::from(self.0));
+        if d == 0 { i < j } else { d < count.n }
+    }
+}
+
+// A process count that a table may have.
+#[derive(Clone, Copy)]
+pub(crate) struct ProcessCount {
+    n: u8,
+    ghost counted: { Count n },
+}
+
+impl ProcessCount {
+    pub(crate) fn new(n: u8) -> Option<ProcessCount>
+        ensures { MatchOption result (count_ok n ≡ false) (λ count. count.n ≡ n) }
+    {
+        if !fields::count_ok(n) {
+            return None;
+        }
+        Some(ProcessCount { n })
     }
 
-    pub(crate) fn value(self) -> Value
-        ensures { result.0 ≡ self.0 }
+    // The remainder by M = 2n - 1, mended to lie in 0 to M - 1: the processor's has the sign of the number.
+    fn remainder(self, number: i64) -> u8
+        ensures { result ≡ remainder number (modulus_of self.n) }
     {
-        Value(self.0)
+        let modulus = i64::from(2 * self.n - 1);
+        let rest = number % modulus;
+        if rest < 0 {
+            (rest + modulus) as u8
+        } else {
+            rest as u8
+        }
     }
+}
 
-    fn whole(self) -> Whole
-        ensures { result.0 ≡ self.0 }
-    {
-        Whole::of(self.value())
-    }
+// The bounded machine's shift of tokens, which takes the pivot to n - 1.
+#[derive(Clone, Copy)]
+pub(crate) struct Shift {
+    pub(crate) count: ProcessCount,
+    pub(crate) pivot: BToken,
+}
 
+impl Shift {
     // (v + n - 1 - p) mod M
-    fn shifted(self, n: u8, pivot: BToken) -> u8
-        requires { Count n }
-        ensures { result ≡ shifted n pivot.0 self.0 }
+    fn shifted(self, v: BToken) -> i32
+        ensures { result ≡ pos (shifted self.count.n self.pivot.0 v.0) }
     {
-        let raised = self.whole().plus(Whole::of_number(n - 1));
-        raised.minus(pivot.whole()).remainder(modulus(n))
+        let raised = i64::from(v.0) + i64::from(self.count.n) - 1;
+        i32::from(self.count.remainder(raised - i64::from(self.pivot.0)))
     }
 
     // The same of a read cell, which may hold none.
-    fn shifted_cell(self, n: u8, pivot: BToken) -> Value
-        requires { Count n }
-        ensures { result.0 ≡ shifted_cell n pivot.0 self.0 }
+    fn shifted_cell(self, cell: i32) -> i32
+        ensures { result ≡ shifted_cell self.count.n self.pivot.0 cell }
     {
-        if self.value().is_none() {
-            return Value(NONE);
+        if cell == NONE {
+            return NONE;
         }
-        Value::of_number(self.shifted(n, pivot) as u16)
-    }
-
-    // The shifted read cells, as a second array.
-    fn shifted_cells(n: u8, pivot: BToken, cells: &[i32; SLOTS]) -> [i32; SLOTS]
-        requires { Count n × (length cells.now ≡ slots) }
-        ensures { result ≡ map (shifted_cell n pivot.0) cells.now }
-    {
-        let mut out = [NONE; SLOTS];
-        for k in 0..SLOTS {
-            let v = value_at(cells, k);
-            let w = BToken::of(v).shifted_cell(n, pivot);
-            let shifted = w.0;
-            out[k] = shifted;
-        }
-        out
-    }
-
-    // The next token: (m + p - n + 2) mod M, where m is the largest of the shifted pivot and the shifted read cells.
-    pub(crate) fn next(n: u8, pivot: BToken, cells: &[i32; SLOTS]) -> BToken
-        requires { Count n × (length cells.now ≡ slots) }
-        ensures { result.0 ≡ next_b n pivot.0 cells.now }
-    {
-        let own = Value::of_number(pivot.shifted(n, pivot) as u16);
-        let others = BToken::shifted_cells(n, pivot, cells);
-        let most = largest(own, &others);
-        BToken::unshifted(n, pivot, most)
+        self.shifted(BToken(cell))
     }
 
     // (m + p - n + 2) mod M
-    fn unshifted(n: u8, pivot: BToken, most: Value) -> BToken
-        requires { Count n }
-        ensures { result.0 ≡ pos (remainder (most.0 +ℤ pivot.0 -ℤ pos n +ℤ pos 2) (modulus_of n)) }
+    fn unshifted(self, most: i32) -> BToken
+        ensures { result.0 ≡ pos (remainder (most +ℤ self.pivot.0 -ℤ pos self.count.n +ℤ pos 2) (modulus_of self.count.n)) }
     {
-        let sum = Whole::of(most).plus(pivot.whole());
-        let raised = sum.minus(Whole::of_number(n)).plus(Whole::of_number(2));
-        let next = raised.remainder(modulus(n));
-        BToken::of(Value::of_number(next as u16))
+        let sum = i64::from(most) + i64::from(self.pivot.0);
+        let next = self.count.remainder(sum - i64::from(self.count.n) + 2);
+        BToken(i32::from(next))
     }
 
-    // Whether process i, which holds this token, goes before process j.
-    pub(crate) fn goes_before(self, n: u8, i: u8, other: BToken, j: u8) -> bool
-        requires { Count n }
-        ensures { result ≡ before_b n i self.0 j other.0 }
+    // The next token: (m + p - n + 2) mod M, where m is the largest of the shifted pivot and the shifted read cells.
+    pub(crate) fn next(self, cells: &[i32; SLOTS]) -> BToken
+        ensures { result.0 ≡ next_b self.count.n self.pivot.0 cells.now }
     {
-        let d = other.whole().minus(self.whole()).remainder(modulus(n));
-        ((1 <= d) & (d <= n - 1)) | ((d == 0) & (i < j))
+        let own = self.shifted(self.pivot);
+        let others = cells.iter().copied().map(|cell| self.shifted_cell(cell));
+        self.unshifted(others.fold(own, i32::max))
     }
 }

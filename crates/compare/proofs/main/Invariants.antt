@@ -1,8 +1,6 @@
--- The invariant of the loop in `main`: the totals are sound, and below 2^22 bytes for each n passed.
-use Prim.Native.Nat.{◌+◌, ◌*◌, ◌^◌, ◌≤◌}
-use Rattle.fields.specs.Numbers.{slots}
-use Rattle.compare.specs.Tally.{Sound}
+-- The invariant of the loop in `main`: at most 2^16 bytes for each n passed.
+use Rattle.std.proofs.Common.{◌*◌, ◌^◌, ◌≤◌}
 use Rattle.compare.proofs.main.Given as goal
 
 abbrev pub invariant-loop-n : goal.invariant-loop-n
-invariant-loop-n l = (1 ≤ l.n) × (l.n ≤ slots + 1) × Sound l.all × (l.all.bytes ≤ 2 ^ 22 * l.n)
+invariant-loop-n l = l.all.bytes ≤ 2 ^ 16 * l.n-counter

@@ -1,30 +1,24 @@
--- `put_entries` meets its contract. The loop's invariant: the lines of the entries passed are written.
+-- `put_entries` meets its contract.
 use Prim.Native.Nat.{◌+◌}
+use native.Mathlib.Omega.{arith}
 use mathlib.Core.Path.{refl}
-use lib.Seq.{take_all}
-use Rattle.laws.proofs.Writes.{and_then, room_next}
 use Rattle.listing.specs.Listing.{entry_lines}
 use Rattle.listing.proofs.EntryLines.{lines_more, lines_room}
-use native.Mathlib.Omega.{arith}
+use Rattle.listing.proofs.Writes.{and_then, room_for_next}
 use Rattle.listing.proofs.put_entries.Goals as goal
 
-pub loop-k-init : goal.loop-k-init
+pub loop-process-init : goal.loop-process-init
 unfolding entry_lines
-loop-k-init c = (omega arith, record { place = omega arith; bytes = refl })
+loop-process-init c = record { same_reference = refl; written = record { place = omega arith; bytes = refl } }
 
-pub put_entry-next-requires : goal.put_entry-next-requires
-put_entry-next-requires c =
-    let k = c.loop-k.k in
-    let room = lines_room c.args.at c.args.entries.now (k + 1) c.requires in
-    room_next c.loop-k.invariant.1 _ (rw (lines_more c.args.entries.now k c.loop-k-test.true) at room)
+pub put_entry-requires : goal.put_entry-requires
+put_entry-requires c =
+    let s = c.args.entries.now in
+    let k = c.loop-process.process-index in
+    let room = lines_room c.args.out.now.len s (k + 1) c.requires in
+    room_for_next c.loop-process.invariant _ (rw (lines_more s k c.loop-process-test.true) at room)
 
-pub loop-k-preserved : goal.loop-k-preserved
-loop-k-preserved c =
-    let s = c.args.entries.now in (
-      omega arith,
-      rw (lines_more s c.loop-k.k c.loop-k-test.true) (and_then c.loop-k.invariant.1 c.put_entry-next.ensures),
-    )
-
-pub returns : goal.returns
-returns c =
-    rw (take_all c.loop-k.k c.args.entries.now c.loop-k-test.false) at c.loop-k.invariant.1
+pub loop-process-preserved : goal.loop-process-preserved
+loop-process-preserved c =
+    rw (lines_more c.args.entries.now c.loop-process.process-index c.loop-process-test.true)
+    (and_then c.loop-process.invariant c.put_entry.ensures)

@@ -1,17 +1,7 @@
 -- `written_and_read` meets its contract: the bytes that it reads are those that the write answers to have written.
-use Rattle.std.proofs.Common.{sym, arith}
-use Rattle.std.proofs.Math.Seq.{length-take-le}
 use Rattle.table.proofs.Held.{held_sized}
-use Rattle.stored.proofs.WriteAnswers.{written_within}
 use Rattle.cases.proofs.RoundTrips.{written_read}
 use Rattle.cases.proofs.round_trips.written_and_read.Goals as goal
-
-pub slice_bounds-read-end : goal.slice_bounds-read-end
-slice_bounds-read-end c = rw c.write-w.ensures.value (omega (arith, written_within c.args.t c.args.lent.now))
-
-pub slice_bounds-read-end-2 : goal.slice_bounds-read-end-2
-slice_bounds-read-end-2 c =
-    sym (length-take-le _ _ (rw c.write-w.ensures.value (omega (arith, written_within c.args.t c.args.lent.now))))
 
 pub returns-clause-value : goal.returns-clause-value
 returns-clause-value c =

@@ -1,22 +1,16 @@
 -- `at_most_one` meets its contract.
-use mathlib.Core.Path.{◌≡◌, refl}
-use Rattle.laws.specs.Tests.{how_many}
-use Rattle.laws.proofs.Tests.{many_more}
+use Rattle.std.proofs.Common.{rules, ◌≡◌, ℕ, ap, ◌∙◌}
+use lib.Dec.{leb}
+use Rattle.std.specs.List.{count_by}
 use Rattle.fields.specs.Numbers.{slots}
-use Rattle.demands.specs.Agreement.{at_most_one}
-use native.Mathlib.Omega.{arith}
+use Rattle.table.specs.WellFormed.{no_row}
+use Rattle.table.specs.declared.Row.{Row}
+use Rattle.demands.specs.Agreement.{at_most_one, is_critical_line}
+use Rattle.laws.proofs.Chains.{count_is_how_many}
 use Rattle.compare.proofs.demand.at_most_one.Goals as goal
-
-pub loop-k-init : goal.loop-k-init
-unfolding how_many
-loop-k-init c = (omega arith, omega arith, refl)
-
-pub loop-k-preserved : goal.loop-k-preserved
-loop-k-preserved c =
-    (omega arith, omega arith, many_more _ c.loop-k.k c.loop-k.invariant.2 c.critical_at-count.ensures.value)
 
 pub returns : goal.returns
 unfolding at_most_one
 returns c =
-    let e : c.loop-k.k ≡ slots = omega arith in
-    rw (c.loop-k.invariant.2, e)
+    let e : c.count.result ≡ count_by (λ (r : Row). is_critical_line r.core.line) c.args.t.rows = search rules in
+    ap (λ (n : ℕ). leb n 1) (e ∙ count_is_how_many _ c.args.t.rows no_row slots (search rules))

@@ -1,22 +1,15 @@
--- `waiting_in` meets its contract. The loop's invariant: the rows passed that wait are counted.
-use Prim.Native.Nat.{◌+◌, ◌-◌}
-use mathlib.Core.Path.{◌≡◌, refl}
-use Rattle.laws.specs.Tests.{how_many}
-use Rattle.laws.proofs.Tests.{many_more}
+-- `waiting_in` meets its contract: to count the rows of a list is to count their places, from 1 on.
+use Rattle.std.proofs.Common.{rules, ◌≡◌, ◌∙◌, Bool, count_by}
+use Rattle.laws.specs.Tests.{within}
+use Rattle.laws.proofs.Chains.{count_is_how_many}
 use Rattle.fields.specs.Numbers.{slots}
-use native.Mathlib.Omega.{arith}
+use Rattle.table.specs.declared.Row.{Row}
+use Rattle.table.specs.WellFormed.{no_row}
 use Rattle.machine.proofs.running.waiting_in.Goals as goal
-
-pub loop-k-init : goal.loop-k-init
-unfolding how_many
-loop-k-init c = (omega arith, omega arith, refl)
-
-pub loop-k-preserved : goal.loop-k-preserved
-loop-k-preserved c =
-    let same : c.loop-k.k + 1 - 1 ≡ c.loop-k.k = omega arith in
-    (omega arith, omega arith, many_more _ c.loop-k.k c.loop-k.invariant.2 (rw same c.waits_at-waiting.ensures.value))
 
 pub returns : goal.returns
 returns c =
-    let e : c.loop-k.k ≡ slots = omega arith in
-    rw e at c.loop-k.invariant.2
+    let rows = c.args.t.rows in
+    let waits : Row → Bool = λ r. within 6 7 r.core.line in
+    let e : c.count.result ≡ count_by waits rows = search rules in
+    e ∙ count_is_how_many waits rows no_row slots (search rules)

@@ -1,7 +1,7 @@
 -- `step` meets its contract: of a well-formed table it is a run of one byte.
 use mathlib.Core.Path.{◌≡◌, ap, ◌∙◌}
 use native.Mathlib.Omega.{arith}
-use Rattle.laws.proofs.Tests.{passed, failed}
+use Rattle.laws.proofs.Tests.{failed}
 use Rattle.machine.specs.Step.{step_of}
 use Rattle.machine.specs.declared.Ran.{Ran}
 use Rattle.machine.proofs.Steps.{step_mark_most}
@@ -12,10 +12,6 @@ use Rattle.machine.proofs.stepping.step.Goals as goal
 pub returns-then-not-well_formed : goal.returns-then-not-well_formed
 unfolding step_of
 returns-then-not-well_formed c = rw (failed c.well_formed-2.ensures c.if-not-well_formed.true, c.refused.ensures)
-
-pub course-r-requires : goal.course-r-requires
-course-r-requires c =
-    (passed c.well_formed-2.ensures c.if-not-well_formed.false, omega arith)
 
 -- the step's table, mark and stop number, in the answer of the run
 stepped : (c : After-course-r)

@@ -1,23 +1,21 @@
 -- `read` meets its contract.
-use mathlib.Core.Path.{sym, ◌∙◌}
-use Rattle.stored.specs.Fields.{table_in}
 use Rattle.stored.specs.Reading.{answer_to, read_of}
 use Rattle.stored.proofs.Accepted.{accepted_framed, accepted_rules}
+use mathlib.Core.Path.{sym, ◌∙◌}
+use Rattle.stored.specs.Fields.{table_in}
 use Rattle.stored.proofs.reading.read.Goals as goal
-
-pub returns-in-Found : goal.returns-in-Found
-unfolding read_of answer_to
-returns-in-Found c =
-    c.refused.ensures ∙ rw (← c.fault_in-search.ensures, c.in-Found.is)
 
 pub table_in-requires : goal.table_in-requires
 unfolding table_in
 table_in-requires c =
     let s = c.args.form.now in
-    let none = sym c.fault_in-search.ensures ∙ c.in_default.is in
-    ((accepted_rules s none).most, (accepted_framed s none).long)
+    let none = sym c.in-Ok.ensures in
+    record { few = (accepted_rules s none).most; whole = (accepted_framed s none).long }
 
-pub returns : goal.returns
+pub returns-in-Ok : goal.returns-in-Ok
 unfolding read_of answer_to
-returns c =
-    rw (c.table_in.ensures, ← c.fault_in-search.ensures, c.in_default.is)
+returns-in-Ok c = rw (c.table_in.ensures, ← c.in-Ok.ensures)
+
+pub returns-in-Err : goal.returns-in-Err
+unfolding read_of answer_to
+returns-in-Err c = c.refused.ensures ∙ rw (← c.in-Err.ensures)

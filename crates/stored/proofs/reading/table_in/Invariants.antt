@@ -1,7 +1,5 @@
 -- `table_in` meets its contract. The loop's invariant: the rows passed are filled in.
-use Prim.Native.Nat.{ℕ, ◌-◌, ◌≤◌}
-use mathlib.Core.Path.{◌≡◌}
-use mathlib.Core.List.{List}
+use Rattle.std.proofs.Common.{ℕ, ◌≡◌, List}
 use Rattle.table.specs.Fresh.{fresh_row}
 use Rattle.table.specs.declared.Table.{Table}
 use Rattle.stored.specs.Fields.{algorithm_in, count_in, x_in, row_in, filled}
@@ -12,7 +10,4 @@ abbrev pub up_to : List ℕ → ℕ → Table
 up_to s k = record { algorithm = algorithm_in s; n = count_in s; x = x_in s; rows = filled (row_in s) k fresh_row }
 
 abbrev pub invariant-loop-k : goal.invariant-loop-k
-invariant-loop-k l = (l.k ≤ l.n) × (l.t ≡ up_to l.form l.k)
-
-abbrev pub decreases-loop-k : goal.decreases-loop-k
-decreases-loop-k l = l.n - l.k
+invariant-loop-k l = l.t ≡ up_to l.form l.k

@@ -1,39 +1,60 @@
 -- `put_form` meets its contract. The loop's invariant: after the head, the records of the processes passed are written.
-use Prim.Native.Nat.{◌+◌}
+use Prim.Native.Nat.{◌+◌, ◌-◌, ◌<◌}
 use mathlib.Core.Path.{◌≡◌, refl}
 use native.Mathlib.Omega.{arith}
+use lib.ListN.{length, get_or}
 use Rattle.laws.specs.InTurn.{in_turn}
-use Rattle.laws.proofs.Writes.{and_then, same_size}
-use Rattle.laws.proofs.InTurn.{turn_more, turn_length}
-use Rattle.stored.specs.Form.{records_of, encode, row_length, cells_length}
-use Rattle.stored.proofs.Lengths.{head_length_lem, records_length}
+use Rattle.laws.proofs.Writes.{and_then}
+use Rattle.laws.proofs.InTurn.{turn_more}
+use Rattle.table.specs.WellFormed.{no_row}
+use Rattle.stored.specs.Form.{records_of, encode}
+use Rattle.stored.proofs.Lengths.{passed_length}
+use Rattle.stored.proofs.Numbered.{GoesOver, turn, at_end}
+use Rattle.std.proofs.lemmas.List.{length_push}
+use borrow.Author.Rules.{rules}
 use Rattle.stored.proofs.writing.put_form.Goals as goal
+use Rattle.stored.proofs.writing.put_form.Goals.{After-row_record}
 
-pub put_head-next-requires : goal.put_head-next-requires
-put_head-next-requires c = omega arith
+-- the process and the row of an iteration
+its_process : (c : After-row_record)
+    → (length c.loop-process.yielded < c.args.t.n) × (c.in-Some.process ≡ length c.loop-process.yielded + 1)
+    × (c.in-Some.row.now ≡ get_or c.args.t.rows (length c.loop-process.yielded) no_row)
+its_process c =
+    let over : GoesOver c.args.t.n c.args.t.rows c.into_iter-process-iterator.result =
+    record { first = cc; last = cc; unspent = cc; rest = cc c.zip-process-items.ensures.second.0 } in
+    turn over c.loop-process.yielded c.loop-process.process-iterator c.next.new.self
+    c.loop-process.yielded_by c.next.result c.in-Some.process c.in-Some.row no_row c.in-Some.is c.next.ensures.steps
 
-pub loop-k-init : goal.loop-k-init
+pub loop-process-init : goal.loop-process-init
 unfolding in_turn
-loop-k-init c = (omega arith, record { place = omega arith; bytes = refl })
+loop-process-init c = record { place = omega arith; bytes = refl }
 
-pub put_records-next-requires : goal.put_records-next-requires
-put_records-next-requires c =
-    let w = and_then c.put_head-next.ensures c.loop-k.invariant.1 in
-    let records = turn_length (records_of c.args.t) (row_length + cells_length) (records_length c.args.t) c.loop-k.k in
-    (omega arith, omega (arith, c.put_head-next.ensures.place, c.loop-k.invariant.1.place, records, same_size w, head_length_lem c.args.t))
+pub put-next-requires-in-loop-process : goal.put-next-requires-in-loop-process
+put-next-requires-in-loop-process c =
+    let h = its_process (goal.at.put-next-requires-in-loop-process c).After-row_record in
+    omega (arith, passed_length)
 
-pub loop-k-preserved : goal.loop-k-preserved
-loop-k-preserved c =
-    let t = c.args.t in
-    (omega arith, rw (turn_more (records_of t) c.loop-k.k) (and_then c.loop-k.invariant.1 c.put_records-next.ensures))
+pub put-next-requires-in-loop-process-2 : goal.put-next-requires-in-loop-process-2
+put-next-requires-in-loop-process-2 c =
+    let h = its_process (goal.at.put-next-requires-in-loop-process-2 c).After-row_record in
+    omega (arith, passed_length)
 
-pub shape_of-buffer : goal.shape_of-buffer
-shape_of-buffer c =
-    same_size (and_then c.put_head-next.ensures c.loop-k.invariant.1)
+pub loop-process-preserved : goal.loop-process-preserved
+unfolding records_of
+loop-process-preserved c =
+    let k = length c.loop-process.yielded in
+    let h = its_process (goal.at.loop-process-preserved c).After-row_record in
+    let both = and_then c.put-next-in-loop-process.ensures c.put-next-in-loop-process-2.ensures in
+    let records = rw (c.row_record.ensures, c.cells_record.ensures, h.1, h.2) at both in
+    let more = length_push c.loop-process.yielded (c.in-Some.process, c.in-Some.row) in
+    let off : k + 1 - 1 ≡ k = omega arith in
+    rw (more, turn_more (records_of c.args.t) k, off) (and_then c.loop-process.invariant records)
 
 pub returns : goal.returns
 unfolding encode
 returns c =
-    let t = c.args.t in
-    let e : c.loop-k.k ≡ t.n = omega arith in
-    and_then c.put_head-next.ensures (rw e at c.loop-k.invariant.1)
+    let over : GoesOver c.args.t.n c.args.t.rows c.into_iter-process-iterator.result =
+    record { first = cc; last = cc; unspent = cc; rest = cc c.zip-process-items.ensures.second.0 } in
+    let all = at_end over c.loop-process.yielded c.loop-process.process-iterator c.next.new.self
+    c.loop-process.yielded_by c.next.result c.in-None.is c.next.ensures.steps (search rules) in
+    and_then (rw c.head_record.ensures at c.put-next.ensures) (rw all at c.loop-process.invariant)

@@ -1,26 +1,15 @@
--- `cells_ok` meets its contract. The loop's invariant: each cell passed keeps its rule.
-use mathlib.Core.Path.{◌≡◌, refl, sym}
-use Rattle.laws.specs.Tests.{every}
-use Rattle.laws.proofs.Tests.{every_more, every_stops}
+-- `cells_ok` meets its contract: the chain asks the rule of cell k + 1 for each k.
+use Rattle.std.proofs.Common.{rules, ◌∙◌, refl, ◌+◌}
+use Rattle.std.proofs.lemmas.Iterator.{YieldsList-from_range}
+use Rattle.std.proofs.lemmas.Iterator.Search.{all_from_yields_List}
+use Rattle.laws.proofs.Chains.{every_listed}
 use Rattle.fields.specs.Numbers.{slots}
-use Rattle.table.specs.WellFormed.{cells_ok}
-use native.Mathlib.Omega.{arith}
+use Rattle.table.specs.WellFormed.{cell_rule, cells_ok}
 use Rattle.table.proofs.rules.cells_ok.Goals as goal
-
-pub loop-k-init : goal.loop-k-init
-unfolding every
-loop-k-init c = (omega arith, refl)
-
-pub returns-then-not-cell_at_ok : goal.returns-then-not-cell_at_ok
-unfolding cells_ok
-returns-then-not-cell_at_ok c = every_stops _ _ slots (omega arith) c.cell_at_ok.ensures c.if-not-cell_at_ok.true
-
-pub loop-k-preserved : goal.loop-k-preserved
-loop-k-preserved c =
-    (omega arith, every_more _ _ c.loop-k.invariant.1 c.cell_at_ok.ensures c.if-not-cell_at_ok.false)
 
 pub returns : goal.returns
 unfolding cells_ok
 returns c =
-    let e : c.loop-k.k ≡ slots = omega arith in
-    sym (rw e at c.loop-k.invariant.1)
+    all_from_yields_List (λ k. cell_rule c.args.top.0 c.args.n c.args.i c.args.r (k + 1)) _ _ _ c.all.ensures.ran
+    (YieldsList-from_range 0 slots slots refl refl) (λ x b q k. search rules)
+    ∙ every_listed _ slots
