@@ -51,7 +51,7 @@ pub extern "C" fn library_run(algorithm: u8, n: u8, schedule: &[u8], entries: &m
         entries: r.entries,
         waiting: r.waiting,
         place: r.place,
-        stop: r.stop,
+        stop: fields::stop_number(r.stop),
     }
 }
 """.replace("CALL", CALL)
@@ -102,7 +102,7 @@ def call(folder, *command):
 def built(folder):
     """Builds the program in a folder, and answers its path."""
     shutil.copytree(files.whole("crates"), os.path.join(folder, "crates"), ignore=shutil.ignore_patterns("out"))
-    write(os.path.join(folder, "crates.txt"), "%s%s staticlib: table %s\n" % (files.text("crates.txt"), NAME, CRATE))
+    write(os.path.join(folder, "crates.txt"), "%s%s staticlib: fields table %s\n" % (files.text("crates.txt"), NAME, CRATE))
     crate = os.path.join(folder, "crates", NAME)
     write(os.path.join(crate, "src/lib.rt"), EXPORT)
     call(crate, "rt", "lib")

@@ -3,10 +3,9 @@
 ghost use Rattle.std.specs.Prelude.{◌≡◌, ◌+◌, ◌<◌};
 ghost use Rattle.fields.specs.Numbers.{modulus_of};
 ghost use Rattle.demands.specs.Agreement.{f, is_remainder, row_agrees, agree, at_most_one, meets};
-ghost use Rattle.compare.specs.Same.{same};
 
 use crate::count::ProcessCount;
-use fields::{NONE, TOKEN_LIMIT};
+use fields::NONE;
 use table::{Row, Table};
 
 // A modulus of the mapping from the unbounded table's numbers to the bounded one's.
@@ -92,15 +91,4 @@ pub(crate) fn is_met(count: ProcessCount, unbounded: Table, bounded: Table) -> b
     Modulus::of_count(count).tables_agree(unbounded, bounded)
         && at_most_one(unbounded)
         && at_most_one(bounded)
-}
-
-// Whether two tables of one machine are the same. Modulo one more than the limit each number is its own remainder, and -1 goes with -1.
-#[tactic(auto, unfolding(crate::specs::Same::same))]
-pub(crate) fn is_same(t: Table, other: Table) -> bool
-    ensures { result ≡ same t other }
-{
-    let m = Modulus {
-        m: TOKEN_LIMIT as u32 + 1,
-    };
-    t.algorithm == other.algorithm && t.n == other.n && m.tables_agree(t, other)
 }

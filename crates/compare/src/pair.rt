@@ -34,7 +34,7 @@ fn stop_due(n: u8, byte: u8) -> Option<Refusal> {
 
 // "On refusal step returns the given table and the mark 0".
 fn kept_if_refused(before: Table, after: Stepped) -> bool {
-    after.stop.is_none() || (after.mark == 0 && demand::is_same(before, after.table))
+    after.stop.is_none() || (after.mark == 0 && after.table == before)
 }
 
 // What a machine did at a byte, given the table before it.

@@ -4,7 +4,7 @@ use Rattle.fields.specs.declared.Refusal.{Refusal}
 use Rattle.fields.specs.declared.Refusal.TheVariants.{BadAlgorithm, BadProcessCount, NotWellFormed, BadProcessNumber, AboveTokenLimit}
 use Rattle.fields.specs.declared.Refusal.TheVariants.{ScheduleTooLong, EntriesTooShort, BufferTooShort, FormTooShort, WrongKind}
 use Rattle.fields.specs.declared.Refusal.TheVariants.{FormTooLong, BadField}
-use Rattle.fields.specs.Refusals.{Stop, no_refusal, number_of, stop_number_of, is_accepted}
+use Rattle.fields.specs.Refusals.{Stop, no_refusal, number_of, stop_number_of, Numbered, is_accepted}
 
 -- where the test holds nothing is refused, and where it fails something is
 pub accepted_none : (stop : Stop) → is_accepted stop ≡ true → stop ≡ no_refusal
@@ -22,6 +22,10 @@ none_accepted stop e = rw e
 pub some_refused : (stop : Stop) → (stop ≡ no_refusal → ⊥) → is_accepted stop ≡ false
 some_refused None f = absurd (f refl)
 some_refused (Some refusal) f = refl
+
+-- each stop has the paper's number
+pub numbered : Numbered
+numbered = (refl, refl, refl, refl, refl, refl, refl, refl, refl, refl, refl, refl, refl)
 
 -- a stop number is at most 12
 pub number_most : (refusal : Refusal) → number_of refusal ≤ 12

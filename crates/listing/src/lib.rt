@@ -1,5 +1,5 @@
 // The entry lister of document 01 as a function: the bytes of its standard input to the bytes of its text.
-#![tactic(auto, unfolding(crate::specs::Listing::bakery_line, crate::specs::Listing::entry_line, crate::specs::Listing::counts_line, crate::specs::Text::numbered_line, crate::specs::Text::numbered, crate::specs::Text::line_feed, crate::specs::Text::ascii))]
+#![tactic(auto)]
 
 mod text;
 
@@ -28,6 +28,7 @@ const REST_ROOM: usize = 200;
 pub const LISTING_ROOM: usize = SCHEDULE_LIMIT * ENTRY_ROOM + REST_ROOM;
 
 // `bakery A n`
+#[tactic(auto, unfolding(crate::specs::Listing::bakery_line, crate::specs::Text::numbered_line, crate::specs::Text::numbered, crate::specs::Text::ascii))]
 fn put_bakery(out: &mut Writer<'_>, algorithm: u8, n: u8)
     requires { HasRoom out.old (bakery_line algorithm n) }
     ensures { Writes out.old (bakery_line algorithm n) out.new }
@@ -37,6 +38,7 @@ fn put_bakery(out: &mut Writer<'_>, algorithm: u8, n: u8)
 }
 
 // `entry P`
+#[tactic(auto, unfolding(crate::specs::Listing::entry_line, crate::specs::Text::numbered_line, crate::specs::Text::numbered, crate::specs::Text::ascii))]
 fn put_entry(out: &mut Writer<'_>, process: u8)
     requires { HasRoom out.old (entry_line process) }
     ensures { Writes out.old (entry_line process) out.new }
@@ -55,6 +57,7 @@ fn put_entries(out: &mut Writer<'_>, entries: &[u8])
 }
 
 // The counts and the stop number.
+#[tactic(auto, unfolding(crate::specs::Listing::counts_line, crate::specs::Text::numbered_line, crate::specs::Text::numbered, crate::specs::Text::ascii))]
 fn put_counts(out: &mut Writer<'_>, r: Ran)
     requires { HasRoom out.old (counts_line r) }
     ensures { Writes out.old (counts_line r) out.new }

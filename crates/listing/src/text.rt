@@ -53,6 +53,7 @@ impl<'a> Writer<'a> {
     }
 
     // The same as a line.
+    #[tactic(auto, unfolding(crate::specs::Text::line_feed, crate::specs::Text::ascii))]
     pub(crate) fn put_line(&mut self, word: &[u8], n: usize)
         requires { HasRoom self.old (word.now ++ decimal n ++ line_feed) }
         ensures { Writes self.old (word.now ++ decimal n ++ line_feed) self.new }

@@ -1,4 +1,4 @@
--- What the private functions of a step ask of their caller. A process of a well-formed table has the first.
+-- What the loop of a run knows of a process of a well-formed table (`Ready`), and what a private function of a step asks (`OtherLine`).
 use Rattle.std.specs.Prelude.{ℕ, ◌≤◌, ◌≡◌, true}
 use Rattle.laws.specs.Tests.{within}
 use Rattle.fields.specs.Numbers.{slots, first_line, last_line}

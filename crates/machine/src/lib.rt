@@ -19,7 +19,8 @@ pub(crate) struct Seen {
     pub(crate) x: i32,
 }
 
-// What comes of a line: the core of the row, X, the mark and the stop number.
+// What comes of a line: the core of the row, X, the mark and the stop number. The mark is a number, here and below, as document 01 has it: the
+// definitions `moves` and `refuses`, the law `step_mark` and the theorem `PassageAlone` speak of 1 and 0.
 #[derive(Clone, Copy)]
 pub(crate) struct Went {
     pub(crate) core: Core,
@@ -28,7 +29,8 @@ pub(crate) struct Went {
     pub(crate) stop: Option<Refusal>,
 }
 
-// The answer of `step`.
+// The answer of `step`. No Result, here and below: on a refusal they answer the table and the counts too, as `refused_step`, `refused_run` and, of
+// 4 and 5, `answer_of` say.
 #[derive(Clone, Copy)]
 pub struct Stepped {
     pub table: Table,

@@ -14,6 +14,7 @@ use fields::{NONE, Refusal, Value};
 use table::Core;
 
 // The next larger number other than i.
+#[tactic(auto, unfolding(crate::specs::Lines::next_other))]
 fn next_other(i: u8, j: u8) -> u8
     requires { j ≤ slots }
     ensures { result ≡ next_other i j }
@@ -73,6 +74,7 @@ impl Process {
     }
 
     // To line 6 with the next larger number other than i, or to line 8 if there is none.
+    #[tactic(auto, unfolding(crate::specs::Lines::goes_on))]
     fn goes_on(self, j: u8, c: Core) -> Core
         requires { j ≤ slots }
         ensures { result ≡ goes_on self.n self.i j c }
@@ -105,6 +107,7 @@ impl Process {
     }
 
     // 2, index j: index j + 1, or, if j = n, index 0 and line 3. (`with_read` sets the read cell.)
+    #[tactic(auto, unfolding(crate::specs::Lines::line2))]
     pub(crate) fn line_2(self, c: Core) -> Went
         requires { c.index ≤ slots }
         ensures { result ≡ line2 self.n self.seen c }
@@ -133,6 +136,7 @@ impl Process {
 
     // 4: token takes the next token; pivot becomes -1; line 5. Where the next token is refused, by 5, so is the step. (`cleared` sets the
     // read cells.) It is given the answer of `next_token` for a token, and does with it what line 4 does with the token.
+    #[tactic(auto, unfolding(crate::specs::Lines::line4))]
     pub(crate) fn line_4(self, next: Result<Value, Refusal>, c: Core) -> Went
         ensures { (algorithm : ℕ) (token : ℤ) → next ≡ judged algorithm token → result ≡ line4 algorithm token self.seen c }
     {
@@ -143,6 +147,7 @@ impl Process {
     }
 
     // 5: choosing becomes 0; then on to the smallest number other than i.
+    #[tactic(auto, unfolding(crate::specs::Lines::line5))]
     fn line_5(self, c: Core) -> Went
         ensures { result ≡ line5 self.n self.i self.seen c }
     {
@@ -150,6 +155,7 @@ impl Process {
     }
 
     // 6, index j: if choosing j is 0, line 7; else the step waits.
+    #[tactic(auto, unfolding(crate::specs::Lines::line6))]
     fn line_6(self, c: Core) -> Went
         ensures { result ≡ line6 self.seen c }
     {
@@ -167,6 +173,7 @@ impl Process {
     }
 
     // Whether token j is -1 or i goes before j.
+    #[tactic(auto, using(tokens::proofs::Answers::before_counted))]
     fn passes(self, c: Core) -> bool
         ensures { result ≡ passes self.algorithm self.n self.i self.seen c }
     {
@@ -185,6 +192,7 @@ impl Process {
     }
 
     // 7, index j: if token j is -1 or i goes before j, on to the next larger number; else the step waits.
+    #[tactic(auto, unfolding(crate::specs::Lines::line7))]
     fn line_7(self, c: Core) -> Went
         requires { c.index ≤ slots }
         ensures { result ≡ line7 self.algorithm self.n self.i self.seen c }
@@ -196,6 +204,7 @@ impl Process {
     }
 
     // Lines 6 and 7.
+    #[tactic(auto, unfolding(crate::specs::Lines::any_line, crate::specs::Lines::line_step))]
     pub(crate) fn waiting_line(self, c: Core) -> Went
         requires index { c.index ≤ slots }
         requires from { 6 ≤ c.line }
@@ -212,12 +221,9 @@ impl Process {
     fn line_8(self, c: Core) -> Went
         ensures { result ≡ line8 c }
     {
-        let core = Core { line: 9, ..c };
         Went {
-            core,
             x: c.token,
-            mark: 1,
-            stop: None,
+            ..self.moved(Core { line: 9, ..c })
         }
     }
 
@@ -240,6 +246,7 @@ impl Process {
     }
 
     // Of the doorway, lines 2 to 5, those that are not called by themselves: 3 and 5.
+    #[tactic(auto, unfolding(crate::specs::Lines::any_line, crate::specs::Lines::line_step))]
     fn doorway(self, c: Core) -> Went
         requires from { 2 ≤ c.line }
         requires to { c.line ≤ 5 }
@@ -253,6 +260,7 @@ impl Process {
     }
 
     // Lines 8 to 10.
+    #[tactic(auto, unfolding(crate::specs::Lines::any_line, crate::specs::Lines::line_step))]
     fn critical(self, c: Core) -> Went
         requires from { 8 ≤ c.line }
         requires to { c.line ≤ 10 }
@@ -267,6 +275,7 @@ impl Process {
 
     // Every line but 2, 4, 6 and 7, which are called by themselves. A well-formed row stands at one of the ten; the last arm, to which none
     // comes, waits as the definition does.
+    #[tactic(auto, unfolding(crate::specs::Lines::any_line, crate::specs::Lines::line_step))]
     pub(crate) fn other_line(self, c: Core) -> Went
         requires { OtherLine c }
         ensures { (next : ℤ) → result ≡ any_line self.algorithm self.n self.i next self.seen c }

@@ -13,7 +13,7 @@ use table::{Core, Row};
 pub(crate) fn place_of(process: u8) -> usize
     ensures { result ≡ process - 1 }
 {
-    process.saturating_sub(1) as usize
+    usize::from(process.saturating_sub(1))
 }
 
 // What a step sees: X, and of the row at its index the choosing flag and the token.
@@ -31,8 +31,7 @@ pub(crate) fn seen_in(x: Value, other: Core) -> Seen
 pub(crate) fn next_of(algorithm: u8, n: u8, r: Row) -> Result<Value, Refusal>
     ensures { result ≡ next_of algorithm n r.core.pivot r.cells }
 {
-    let cells = r.cells;
-    tokens::next_token(algorithm, n, table::pivot_of(r.core), cells)
+    tokens::next_token(algorithm, n, table::pivot_of(r.core), r.cells)
 }
 
 // The row with its core set anew.

@@ -15,14 +15,18 @@ use table::Table;
 // The mark of a step that changed the table.
 const MOVED: u8 = 1;
 
-// How many rows wait, at line 6 or 7.
+// How many rows wait, at line 6 or 7. (A chain of iterators made the loop of a run, which this is compiled into, a tenth slower
+// by `tests/run_cost.py`.)
 fn waiting_in(t: Table) -> usize
     ensures { result ≡ waiting_of t }
 {
-    t.rows
-        .iter()
-        .filter(|row| fields::number_within(6, 7, row.core.line))
-        .count()
+    let mut waiting = 0;
+    for row in &t.rows {
+        if fields::number_within(6, 7, row.core.line) {
+            waiting += 1;
+        }
+    }
+    waiting
 }
 
 // The answer of a run that is refused as a whole: all counts and the place are 0.
@@ -57,7 +61,8 @@ fn ended(t: Table, moved: usize, entries: usize, place: usize, stop: Option<Refu
     }
 }
 
-// The entry of process i, where its step is one, goes into the buffer after those before it. Answers how many there are then.
+// The entry of process i, where its step is one, goes into the buffer after those before it. Answers how many there are then. (A struct
+// of the buffer and the count would have this one method, and the loop's invariant would speak of both all the same.)
 fn note_entry(entries: &mut [u8], count: usize, line: u8, i: u8) -> usize
     requires { count < length entries.old }
     ensures value { result ≡ count + cond (eqb line line_of_entry) 1 0 }
@@ -72,7 +77,7 @@ fn note_entry(entries: &mut [u8], count: usize, line: u8, i: u8) -> usize
 
 // The bytes of a schedule, taken one after another up to the first that is refused. A step keeps the table well formed, so it is not
 // checked again for each; and it touches its own row and X alone. The row is copied out inside each arm of the `match`, changed, and put
-// back at once: one that passed through a join of arms would be copied whole once more.
+// back at once: one that passed through a join of arms would be copied whole once more. (A match on the line is a required form.)
 pub(crate) fn course(start: Table, schedule: &[u8], entries: &mut [u8]) -> Ran
     requires formed { well_formed start ≡ true }
     requires room { length schedule.now ≤ length entries.old }
@@ -135,6 +140,7 @@ pub(crate) fn course(start: Table, schedule: &[u8], entries: &mut [u8]) -> Ran
 
 // A run over a schedule from a table: refusals 3, 6, 7, then 4 or 5 byte by byte. Each entry's process number goes to the front of the lent
 // buffer, whose other bytes keep their values.
+#[tactic(auto, unfolding(crate::specs::Run::run_refusal, crate::specs::Run::run_of, crate::specs::Run::buffer_of))]
 pub fn run(t: Table, schedule: &[u8], entries: &mut [u8]) -> Ran
     ensures value { result ≡ run_of t schedule.now entries.old }
     ensures entries_after { entries.new ≡ buffer_of t schedule.now entries.old }

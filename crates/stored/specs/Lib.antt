@@ -3,3 +3,4 @@ pub mod Form
 pub mod Fields
 pub mod Writing
 pub mod Reading
+pub mod Kinds

@@ -4,14 +4,15 @@ ghost use Rattle.laws.specs.InTurn.{in_turn};
 ghost use Rattle.fields.specs.Numbers.{slots};
 ghost use Rattle.stored.specs.Form.{head_length, form_length};
 ghost use Rattle.stored.specs.Fields.{count_in};
+ghost use Rattle.stored.specs.Kinds.{number_of};
 ghost use Rattle.stored.specs.Reading.{refusal_of, check, first_fault, start_checks, head_checks, length_checks, opening_checks, fields_checks};
 ghost use Rattle.stored.specs.Reading.{row_checks, cell_keeps, records_checks, checks_of};
 
 use crate::bytes::number_at;
 use crate::places::{Records, form_length};
 use crate::{
-    ALGORITHM_PLACE, CELLS_KIND, CHOOSING_PLACE, COUNT_PLACE, Fault, Found, HEAD_KIND, HEAD_LENGTH,
-    INDEX_PLACE, LINE_PLACE, PIVOT_PLACE, ROW_KIND, TOKEN_PLACE, X_PLACE,
+    ALGORITHM_PLACE, CHOOSING_PLACE, COUNT_PLACE, Fault, Found, HEAD_LENGTH, INDEX_PLACE, Kind,
+    LINE_PLACE, PIVOT_PLACE, TOKEN_PLACE, X_PLACE,
 };
 use fields::{MOST_PROCESSES, Refusal};
 
@@ -62,7 +63,7 @@ fn check_head(form: &[u8]) -> Result<(), Found>
     ensures first { result ≡ first_fault (head_checks form.now) }
     ensures few { IsOk result → count_in form.now ≤ slots }
 {
-    check(form[0] == HEAD_KIND, Fault::Kind, 0)?;
+    check(form[0] == Kind::Head as u8, Fault::Kind, 0)?;
     let algorithm = form[ALGORITHM_PLACE];
     check(
         fields::algorithm_ok(algorithm),
@@ -79,6 +80,8 @@ fn check_head(form: &[u8]) -> Result<(), Found>
     )
 }
 
+// A form that passes it is as long as its process count says, which `check_records` and `table_in` ask. (A struct of such a form would
+// have to be handed out of the checks, beside the faults: no plainer.)
 #[tactic(auto, unfolding(crate::specs::Reading::first_fault, crate::specs::Reading::length_checks))]
 fn check_length(form: &[u8]) -> Result<(), Found>
     requires { head_length ≤ length form.now }
@@ -93,11 +96,11 @@ fn check_length(form: &[u8]) -> Result<(), Found>
 
 // How a record of a process opens: its kind, and the process number.
 #[tactic(auto, unfolding(crate::specs::Reading::first_fault, crate::specs::Reading::opening_checks))]
-fn check_opening(form: &[u8], kind: u8, process: u8, at: usize) -> Result<(), Found>
+fn check_opening(form: &[u8], kind: Kind, process: u8, at: usize) -> Result<(), Found>
     requires { at + 2 ≤ length form.now }
-    ensures { result ≡ first_fault (opening_checks form.now kind process at) }
+    ensures { result ≡ first_fault (opening_checks form.now (number_of kind) process at) }
 {
-    check(form[at] == kind, Fault::Kind, at)?;
+    check(form[at] == kind as u8, Fault::Kind, at)?;
     check(form[at + 1] == process, Fault::Process, at + 1)
 }
 
@@ -142,10 +145,16 @@ fn check_fields(records: &Records) -> Result<(), Found>
     )
 }
 
+#[tactic(auto, using(crate::proofs::Checks::found_first, crate::proofs::Checks::found_next, crate::proofs::Checks::handed_on), unfolding(crate::specs::Reading::row_checks))]
 fn check_row(records: &Records) -> Result<(), Found>
     ensures { result ≡ first_fault (row_checks records.now.form.now records.now.process) }
 {
-    check_opening(records.form, ROW_KIND, records.process, records.row_place())?;
+    check_opening(
+        records.form,
+        Kind::Row,
+        records.process,
+        records.row_place(),
+    )?;
     check_fields(records)
 }
 
@@ -164,7 +173,8 @@ fn cell_keeps(records: &Records, j: u8) -> bool
     fields::cell_ok(records.top(), may, number_at(form, records.cell_place(j)))
 }
 
-// The first fault of the records of all processes. Rows and cells are walked in nested loops, left by the label with the place.
+// The first fault of the records of all processes. Rows and cells are walked in nested loops, left by the label with the place: a
+// required form.
 #[tactic(auto, unfolding(crate::specs::Reading::first_fault, laws::specs::InTurn::in_turn))]
 fn check_records(form: &[u8]) -> Result<(), Found>
     requires few { count_in form.now ≤ slots }
@@ -174,8 +184,12 @@ fn check_records(form: &[u8]) -> Result<(), Found>
     'rows: {
         for process in 1..=form[COUNT_PLACE] {
             let records = Records { form, process };
-            check_row(&records)?;
-            check_opening(form, CELLS_KIND, process, records.cells_place())?;
+            if let Err(found) = check_row(&records) {
+                break 'rows Err(found);
+            }
+            if let Err(found) = check_opening(form, Kind::Cells, process, records.cells_place()) {
+                break 'rows Err(found);
+            }
             for j in 1..=MOST_PROCESSES {
                 if !cell_keeps(&records, j) {
                     break 'rows Err(Found {
@@ -190,6 +204,7 @@ fn check_records(form: &[u8]) -> Result<(), Found>
 }
 
 // The first fault of a form.
+#[tactic(auto, using(crate::proofs::Checks::found_first, crate::proofs::Checks::found_next, crate::proofs::Checks::handed_on), unfolding(crate::specs::Reading::checks_of))]
 pub(crate) fn check_form(form: &[u8]) -> Result<(), Found>
     ensures { result ≡ first_fault (checks_of form.now) }
 {

@@ -13,12 +13,13 @@ pub use reading::read;
 use table::Table;
 pub use writing::write;
 
-// The kinds of record, each the first byte of one.
-const HEAD_KIND: u8 = 1;
-
-const ROW_KIND: u8 = 2;
-
-const CELLS_KIND: u8 = 3;
+// The kinds of record: the first byte of one is the number of its kind.
+#[derive(Clone, Copy)]
+enum Kind {
+    Head = 1,
+    Row = 2,
+    Cells = 3,
+}
 
 // The length of each record, its kind and its body.
 const HEAD_LENGTH: usize = 7;
@@ -44,14 +45,13 @@ const TOKEN_PLACE: usize = 5;
 
 const PIVOT_PLACE: usize = 9;
 
-// The answer of `write`.
+// The answers of `write` and of `read`. No Result: on a refusal they answer a length, or a table and a place, as `write_of` and `refused_read` say.
 #[derive(Clone, Copy)]
 pub struct Wrote {
     pub length: usize,
     pub stop: Option<Refusal>,
 }
 
-// The answer of `read`.
 #[derive(Clone, Copy)]
 pub struct Restored {
     pub table: Table,

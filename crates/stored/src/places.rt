@@ -10,7 +10,7 @@ use fields::Value;
 pub(crate) fn form_length(n: u8) -> usize
     ensures { result ≡ form_length n }
 {
-    HEAD_LENGTH + (ROW_LENGTH + CELLS_LENGTH) * (n as usize)
+    HEAD_LENGTH + (ROW_LENGTH + CELLS_LENGTH) * usize::from(n)
 }
 
 // The records of a process, in a form that has room for them.
@@ -49,6 +49,6 @@ impl<'a> Records<'a> {
         requires { 1 ≤ j }
         ensures { result ≡ cell_place self.now.process j }
     {
-        self.cells_place() + 2 + 4 * ((j - 1) as usize)
+        self.cells_place() + 2 + 4 * usize::from(j - 1)
     }
 }

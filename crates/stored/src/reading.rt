@@ -20,8 +20,8 @@ fn cells_in(records: &Records) -> [i32; SLOTS]
     ensures { result ≡ filled (cell_in records.now.form.now records.now.process) slots none }
 {
     let mut cells = [NONE; SLOTS];
-    for k in 0..MOST_PROCESSES {
-        cells[k as usize] = number_at(records.form, records.cell_place(k + 1)).0;
+    for (k, cell) in cells.iter_mut().enumerate() {
+        *cell = number_at(records.form, records.cell_place(k as u8 + 1)).0;
     }
     cells
 }
@@ -58,7 +58,8 @@ fn fresh_table() -> Table
     table::fresh(UNBOUNDED, 1).table
 }
 
-// The table of a form that has no fault. Its rows above n stay as in a fresh table.
+// The table of a form that has no fault. Its rows above n stay as in a fresh table. (By an index: an iterator over a part of the rows tells a proof
+// nothing of the others, which stay.)
 fn table_in(form: &[u8]) -> Table
     requires few { count_in form.now ≤ slots }
     requires whole { length form.now ≡ form_length (count_in form.now) }
@@ -70,7 +71,7 @@ fn table_in(form: &[u8]) -> Table
     t.n = n;
     t.x = number_at(form, X_PLACE).0;
     for k in 0..n {
-        t.rows[k as usize] = row_in(&Records {
+        t.rows[usize::from(k)] = row_in(&Records {
             form,
             process: k + 1,
         });

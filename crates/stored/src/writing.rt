@@ -7,28 +7,30 @@ ghost use Rattle.stored.specs.Writing.{write_of, buffer_of};
 
 use crate::places::form_length;
 use crate::{
-    ALGORITHM_PLACE, CELLS_KIND, CELLS_LENGTH, CHOOSING_PLACE, COUNT_PLACE, HEAD_KIND, HEAD_LENGTH,
-    INDEX_PLACE, LINE_PLACE, PIVOT_PLACE, ROW_KIND, ROW_LENGTH, TOKEN_PLACE, Wrote, X_PLACE,
+    ALGORITHM_PLACE, CELLS_LENGTH, CHOOSING_PLACE, COUNT_PLACE, HEAD_LENGTH, INDEX_PLACE, Kind,
+    LINE_PLACE, PIVOT_PLACE, ROW_LENGTH, TOKEN_PLACE, Wrote, X_PLACE,
 };
 use fields::Refusal;
 use table::{Core, Row, Table};
 
+#[tactic(auto, using(crate::proofs::Numbers::library_bytes), unfolding(crate::specs::Form::head_record, crate::specs::FourBytes::four_bytes, crate::specs::FourBytes::four_digits))]
 fn head_record(t: Table) -> [u8; HEAD_LENGTH]
     ensures { result ≡ head_record t }
 {
     let mut record = [0; HEAD_LENGTH];
-    record[0] = HEAD_KIND;
+    record[0] = Kind::Head as u8;
     record[ALGORITHM_PLACE] = t.algorithm;
     record[COUNT_PLACE] = t.n;
     record[X_PLACE..].copy_from_slice(&t.x.to_le_bytes());
     record
 }
 
+#[tactic(auto, using(crate::proofs::Numbers::library_bytes), unfolding(crate::specs::Form::row_record, crate::specs::FourBytes::four_bytes, crate::specs::FourBytes::four_digits))]
 fn row_record(process: u8, core: Core) -> [u8; ROW_LENGTH]
     ensures { result ≡ row_record process core }
 {
     let mut record = [0; ROW_LENGTH];
-    record[0] = ROW_KIND;
+    record[0] = Kind::Row as u8;
     record[1] = process;
     record[LINE_PLACE] = core.line;
     record[INDEX_PLACE] = core.index;
@@ -42,7 +44,7 @@ fn cells_record(process: u8, row: Row) -> [u8; CELLS_LENGTH]
     ensures { result ≡ cells_record process row }
 {
     let mut record = [0; CELLS_LENGTH];
-    record[0] = CELLS_KIND;
+    record[0] = Kind::Cells as u8;
     record[1] = process;
     for (k, cell) in row.cells.iter().enumerate() {
         let at = 2 + 4 * k;
@@ -51,7 +53,8 @@ fn cells_record(process: u8, row: Row) -> [u8; CELLS_LENGTH]
     record
 }
 
-// Copies a piece to the buffer from a place on, and answers the place after it.
+// Copies a piece to the buffer from a place on, and answers the place after it: the one function that writes there, so that a writer of its own
+// would be no plainer.
 fn put(buffer: &mut [u8], at: usize, piece: &[u8]) -> usize
     requires { at + length piece.now ≤ length buffer.old }
     ensures { Written buffer.old at piece.now buffer.new result }

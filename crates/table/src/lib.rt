@@ -9,7 +9,8 @@ ghost use Rattle.table.specs.Fresh.{fresh_table, refused_fresh, fresh_of};
 use fields::{NONE, Refusal, SLOTS, UNBOUNDED};
 pub use rules::{pivot_of, token_of, well_formed, x_of};
 
-// The core of a row, all but what it keeps of the tokens that it saw: "a line, an index, a choosing flag, a token, a pivot".
+// The core of a row, all but what it keeps of the tokens that it saw: "a line, an index, a choosing flag, a token, a pivot". Numbers all, since a
+// table may hold any, and the rules answer for each.
 #[derive(Clone, Copy, PartialEq, Eq)]
 pub struct Core {
     pub line: u8,
@@ -35,7 +36,7 @@ pub struct Table {
     pub rows: [Row; SLOTS],
 }
 
-// The answer of `fresh`.
+// The answer of `fresh`. No Result: on a refusal it shows a table too, as `refused_fresh` says.
 #[derive(Clone, Copy)]
 pub struct Started {
     pub table: Table,
@@ -75,6 +76,7 @@ fn refused(refusal: Refusal) -> Started
 }
 
 // The fresh table of a machine for n processes: refusals 1, then 2.
+#[tactic(auto, unfolding(crate::specs::Fresh::fresh_of))]
 pub fn fresh(algorithm: u8, n: u8) -> Started
     ensures { result ≡ fresh_of algorithm n }
 {

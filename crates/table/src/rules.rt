@@ -6,7 +6,7 @@ ghost use Rattle.table.specs.WellFormed.{cell_rule, cells_ok, core_ok, row_ok, r
 use crate::{Core, Row, Table};
 use fields::{SLOTS, Value};
 
-// X of a table, and the token of a core and its pivot.
+// X of a table, and the token of a core and its pivot. (No methods: theorems of docs/PROMISES.md name these calls.)
 pub fn x_of(t: Table) -> Value
     ensures { result.0 ≡ t.x }
 {
@@ -25,51 +25,62 @@ pub fn pivot_of(c: Core) -> Value
     Value(c.pivot)
 }
 
-// The read cell at place k, that of process k + 1.
-fn cell_at(r: Row, k: usize) -> Value
-    requires { k < slots }
-    ensures { result.0 ≡ get_or r.cells k (pos 0) }
-{
-    Value(r.cells[k])
+// What the rules of a row are asked for: T, the process count, and the row's number.
+#[derive(Clone, Copy)]
+struct RowRules {
+    top: Value,
+    n: u8,
+    i: u8,
 }
 
-fn cell_at_ok(top: Value, n: u8, i: u8, r: Row, k: usize) -> bool
-    requires { k < slots }
-    ensures { result ≡ cell_rule top.0 n i r (k + 1) }
-{
-    let may = fields::may_hold(n, i, r.core.line, r.core.index, (k as u8) + 1);
-    fields::cell_ok(top, may, cell_at(r, k))
-}
+impl RowRules {
+    // The rule of the read cell at place k, that of process k + 1.
+    #[tactic(auto, unfolding(crate::specs::WellFormed::cell_rule))]
+    fn cell_at_ok(self, r: Row, k: usize) -> bool
+        requires { k < slots }
+        ensures { result ≡ cell_rule self.top.0 self.n self.i r (k + 1) }
+    {
+        let may = fields::may_hold(self.n, self.i, r.core.line, r.core.index, k as u8 + 1);
+        fields::cell_ok(self.top, may, Value(r.cells[k]))
+    }
 
-fn cells_ok(top: Value, n: u8, i: u8, r: Row) -> bool
-    ensures { result ≡ cells_ok top.0 n i r }
-{
-    (0..SLOTS).all(|k| cell_at_ok(top, n, i, r, k))
-}
+    fn cells_ok(self, r: Row) -> bool
+        ensures { result ≡ cells_ok self.top.0 self.n self.i r }
+    {
+        (0..SLOTS).all(|k| self.cell_at_ok(r, k))
+    }
 
-fn core_ok(top: Value, n: u8, i: u8, c: Core) -> bool
-    ensures { result ≡ core_ok top.0 n i c }
-{
-    fields::line_ok(n, i, c.line)
-        & fields::index_ok(n, i, c.line, c.index)
-        & fields::choosing_ok(c.line, c.choosing)
-        & fields::token_ok(top, c.line, token_of(c))
-        & fields::pivot_ok(top, c.line, pivot_of(c))
-}
+    #[tactic(auto, unfolding(crate::specs::WellFormed::core_ok))]
+    fn core_ok(self, c: Core) -> bool
+        ensures { result ≡ core_ok self.top.0 self.n self.i c }
+    {
+        fields::line_ok(self.n, self.i, c.line)
+            && fields::index_ok(self.n, self.i, c.line, c.index)
+            && fields::choosing_ok(c.line, c.choosing)
+            && fields::token_ok(self.top, c.line, token_of(c))
+            && fields::pivot_ok(self.top, c.line, pivot_of(c))
+    }
 
-fn row_ok(top: Value, n: u8, i: u8, r: Row) -> bool
-    ensures { result ≡ row_ok top.0 n i r }
-{
-    core_ok(top, n, i, r.core) & cells_ok(top, n, i, r)
+    #[tactic(auto, unfolding(crate::specs::WellFormed::row_ok))]
+    fn row_ok(self, r: Row) -> bool
+        ensures { result ≡ row_ok self.top.0 self.n self.i r }
+    {
+        self.core_ok(r.core) && self.cells_ok(r)
+    }
 }
 
 // The rules of the row at place k, that of process k + 1.
+#[tactic(auto, unfolding(crate::specs::WellFormed::row_rule))]
 fn row_at_ok(top: Value, t: Table, k: usize) -> bool
     requires { k < slots }
     ensures { result ≡ row_rule top.0 t (k + 1) }
 {
-    let r = t.rows[k];
-    row_ok(top, t.n, (k as u8) + 1, r)
+    let rules = RowRules {
+        top,
+        n: t.n,
+        i: k as u8 + 1,
+    };
+    rules.row_ok(t.rows[k])
 }
 
 fn rows_ok(top: Value, t: Table) -> bool
@@ -79,12 +90,13 @@ fn rows_ok(top: Value, t: Table) -> bool
 }
 
 // Whether document 01 calls the table well formed.
+#[tactic(auto, unfolding(crate::specs::WellFormed::well_formed))]
 pub fn well_formed(t: Table) -> bool
     ensures { result ≡ well_formed t }
 {
     let top = fields::limit_of(t.algorithm, t.n);
     fields::algorithm_ok(t.algorithm)
-        & fields::count_ok(t.n)
-        & fields::x_ok(top, x_of(t))
-        & rows_ok(top, t)
+        && fields::count_ok(t.n)
+        && fields::x_ok(top, x_of(t))
+        && rows_ok(top, t)
 }

@@ -9,7 +9,7 @@ ghost use Rattle.tokens.specs.Tokens.{remainder, largest, shifted, shifted_cell,
 use fields::{NONE, SLOTS, TOKEN_LIMIT};
 
 // A token of UB-Bakery, and a token of B-Bakery, which is one modulo 2n - 1. Source 002 takes the one to the other by its mapping f; here
-// no function takes one of each.
+// no function takes one of each. (Two types are a required form.)
 #[derive(Clone, Copy)]
 pub(crate) struct UbToken(pub(crate) i32);
 
@@ -18,6 +18,7 @@ pub(crate) struct BToken(pub(crate) i32);
 
 impl UbToken {
     // The largest of the pivot and the read cells.
+    #[tactic(auto, using(std::proofs::lemmas::Int::ints, crate::proofs::Largest::largest_fold))]
     pub(crate) fn largest(pivot: UbToken, cells: &[i32; SLOTS]) -> UbToken
         ensures { result.0 ≡ largest pivot.0 cells.now }
     {
@@ -35,6 +36,7 @@ impl UbToken {
     }
 
     // Whether process i, which holds this token, goes before process j.
+    #[tactic(auto, using(std::proofs::lemmas::Int::ints), unfolding(crate::specs::Tokens::before_ub))]
     pub(crate) fn goes_before(self, i: u8, other: UbToken, j: u8) -> bool
         ensures { result ≡ before_ub i self.0 j other.0 }
     {
@@ -43,12 +45,13 @@ impl UbToken {
 }
 
 impl BToken {
-    // Whether process i, which holds this token, goes before process j.
+    // Whether process i, which holds this token, goes before process j. (`&` and `|`, which do not branch: a run is a tenth
+    // faster by `tests/run_cost.py`.)
     pub(crate) fn goes_before(self, count: ProcessCount, i: u8, other: BToken, j: u8) -> bool
         ensures { result ≡ before_b count.n i self.0 j other.0 }
     {
         let d = count.remainder(i64::from(other.0) - i64::from(self.0));
-        if d == 0 { i < j } else { d < count.n }
+        ((1 <= d) & (d <= count.n - 1)) | ((d == 0) & (i < j))
     }
 }
 
@@ -69,7 +72,7 @@ impl ProcessCount {
         Some(ProcessCount { n })
     }
 
-    // The remainder by M = 2n - 1, mended to lie in 0 to M - 1: the processor's has the sign of the number.
+    // The remainder by M = 2n - 1, mended to lie in 0 to M - 1: the processor's has the sign of the number. (A required form.)
     fn remainder(self, number: i64) -> u8
         ensures { result ≡ remainder number (modulus_of self.n) }
     {
@@ -100,6 +103,7 @@ impl Shift {
     }
 
     // The same of a read cell, which may hold none.
+    #[tactic(auto, using(std::proofs::lemmas::Int::ints), unfolding(crate::specs::Tokens::shifted_cell))]
     fn shifted_cell(self, cell: i32) -> i32
         ensures { result ≡ shifted_cell self.count.n self.pivot.0 cell }
     {

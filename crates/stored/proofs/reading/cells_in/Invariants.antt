@@ -5,4 +5,4 @@ use Rattle.stored.specs.Fields.{cell_in, filled}
 use Rattle.stored.proofs.reading.cells_in.Given as goal
 
 abbrev pub invariant-loop-k : goal.invariant-loop-k
-invariant-loop-k l = l.cells ≡ filled (cell_in l.records.form.now l.records.process) l.k none
+invariant-loop-k l = l.cell-items ≡ filled (cell_in l.records.form.now l.records.process) l.k none

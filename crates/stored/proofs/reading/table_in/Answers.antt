@@ -17,7 +17,7 @@ loop-k-init c =
 
 pub loop-k-preserved : goal.loop-k-preserved
 loop-k-preserved c =
-    rw (c.row_in.ensures, c.loop-k.invariant, filled_more (row_in c.args.form.now) fresh_row c.loop-k.k (omega arith))
+    rw (c.from.ensures, c.row_in.ensures, c.loop-k.invariant, filled_more (row_in c.args.form.now) fresh_row c.loop-k.k (omega arith))
 
 pub returns : goal.returns
 unfolding table_in
