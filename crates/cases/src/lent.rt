@@ -3,7 +3,7 @@ use std::io::Write;
 use std::{array, io};
 
 // What byte k of a lent buffer holds before a call. It is no process number, and not what the bytes beside it hold, so that it shows if they
-// are moved.
+// are moved. (`as` narrows a number below 200.)
 fn filler(k: usize) -> u8 {
     (100 + k % 100) as u8
 }
@@ -13,7 +13,7 @@ pub(crate) fn untouched() -> [u8; 65536] {
     array::from_fn(filler)
 }
 
-// The first bytes of a space, or all where it has fewer.
+// The first bytes of a space, or all where it has fewer. A count is what a case or a call says, here and below, and no state.
 pub(crate) fn part(space: &mut [u8], count: usize) -> &mut [u8] {
     let end = count.min(space.len());
     &mut space[..end]

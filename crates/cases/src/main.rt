@@ -35,7 +35,7 @@ fn put_heading(cases: &mut Cases<impl Read, impl Write>) -> io::Result<()> {
     cases.output.write_all(heading)
 }
 
-// The cases of a data file, which opens with their number.
+// The cases of a data file, which opens with their number. (Here the file and the output become one.)
 fn put_cases(file: &mut impl Read, output: &mut impl Write) -> io::Result<()> {
     let mut cases = Cases { file, output };
     for _ in 0..cases.next_length()? {

@@ -38,7 +38,7 @@ impl<R: Read, W: Write> Cases<'_, R, W> {
         Ok(usize::from(u16::from_le_bytes(bytes)))
     }
 
-    // A number of four bytes, the lowest one first.
+    // A number of four bytes, the lowest one first. (One function over both lengths leaves open what `try_from_fn` asks of an unknown one.)
     fn next_number(&mut self) -> io::Result<i32> {
         let bytes = array::try_from_fn(|_| self.next_byte())?;
         Ok(i32::from_le_bytes(bytes))

@@ -2,7 +2,7 @@
 ghost use Rattle.std.specs.Prelude.{◌≡◌, ◌+◌, ◌*◌, ◌≤◌, ◌<◌};
 ghost use Rattle.fields.specs.Numbers.{slots};
 
-// A process count that both machines take.
+// A process count that both machines take. (`tokens` has a private type of the same fact; one for both would be a public call more.)
 #[derive(Clone, Copy)]
 pub(crate) struct ProcessCount {
     pub(crate) n: u8,

@@ -25,7 +25,8 @@ impl Modulus {
         }
     }
 
-    // Source 002's f: the remainder of a number, and -1 for -1, the only number below 0 that a table holds.
+    // Source 002's f: the remainder of a number, and -1 for -1, the only number below 0 that a table holds. (`as` drops a sign that is
+    // not there.)
     #[tactic(auto, using(crate::proofs::Remainder::below_zero, crate::proofs::Remainder::from_zero))]
     fn image(self, v: i32) -> i32
         ensures { result ≡ f self.m v }

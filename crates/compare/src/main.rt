@@ -20,7 +20,7 @@ use tally::Tally;
 // How many passages without waits a schedule has bytes for.
 const PASSAGES: u16 = 100;
 
-// One schedule, in bursts of at most `longest` bytes.
+// One schedule, in bursts of at most `longest` bytes. (What it asks of `longest` is a fact of the `Schedule` that it makes.)
 fn over_schedule(count: ProcessCount, longest: u16) -> Tally
     requires { 0 < longest }
     ensures { result.bytes ≡ PASSAGES * (3 * count.n + 5) }
@@ -49,6 +49,7 @@ fn over_count(count: ProcessCount) -> Tally
     tally
 }
 
+// (A `for` over the counts, since each is printed, which may fail.)
 fn main(rt: HostRuntime) -> io::Result<()> {
     let mut all = Tally::EMPTY;
     for n in 1..=MOST_PROCESSES {

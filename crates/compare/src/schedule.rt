@@ -28,7 +28,7 @@ fn drawn(seed: u32) -> u32 {
     (u64::from(seed) * FACTOR % PRIME) as u32
 }
 
-// A process number, or a byte that is none: 0 or n + 1, which both machines refuse.
+// A process number, or a byte that is none: 0 or n + 1, which both machines refuse. (`as` narrows a remainder, here and above.)
 fn byte_of(count: ProcessCount, number: u32) -> u8 {
     let n = count.n;
     let rest = number / BURSTS_TO_ONE_REFUSED;

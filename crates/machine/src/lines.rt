@@ -1,5 +1,6 @@
 // One step of a process, line by line: the core of its row and what it sees of the others go in, and what comes of them goes out. Line 4 is
-// given the next token besides.
+// given the next token besides. The matches on the line are a required form. What a line asks of an index or of its line is a fact of the core, which
+// is given to it by itself.
 ghost use Rattle.std.specs.Prelude.{◌≡◌, ℕ, ◌≤◌, ℤ};
 ghost use Rattle.fields.specs.Numbers.{slots, none};
 ghost use Rattle.tokens.specs.Count.{Count};

@@ -12,7 +12,7 @@ use crate::rows::{cleared, next_of, place_of, seen_in, with_core, with_read};
 use fields::{LINE_OF_ENTRY, Refusal, SCHEDULE_LIMIT, Value};
 use table::Table;
 
-// The mark of a step that changed the table.
+// The mark of a step that changed the table. (A constant, so that the edit `wait_counted_as_moved` can make it wrong.)
 const MOVED: u8 = 1;
 
 // How many rows wait, at line 6 or 7. (A chain of iterators made the loop of a run, which this is compiled into, a tenth slower

@@ -18,7 +18,7 @@ fn refused(t: Table, refusal: Refusal) -> Stepped
     }
 }
 
-// One step of a process: refusals 3, 4, 5.
+// One step of a process: refusals 3, 4, 5. (`as`: of one byte none or one moved, which the check proves to fit.)
 pub fn step(t: Table, process: u8) -> Stepped
     ensures { result ≡ step_of t process }
 {

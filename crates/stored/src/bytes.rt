@@ -1,4 +1,4 @@
-// Numbers of four bytes, read from a form.
+// Numbers of four bytes, read from a form at a place: the place is what is asked for, and no state.
 ghost use Rattle.std.specs.Prelude.{◌≡◌, ◌+◌, ◌≤◌, length};
 ghost use Rattle.stored.specs.Fields.{number_at};
 

@@ -1,4 +1,5 @@
-// The first fault of a stored form: its checks, in the order of document 01.
+// The first fault of a stored form: its checks, in the order of document 01. What a check asks of a form, that it has the bytes at a place, an
+// earlier check has found.
 ghost use Rattle.std.specs.Prelude.{◌≡◌, ◌+◌, ◌≤◌, [], ◌∷◌, length, IsOk};
 ghost use Rattle.laws.specs.InTurn.{in_turn};
 ghost use Rattle.fields.specs.Numbers.{slots};

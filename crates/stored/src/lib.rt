@@ -13,7 +13,7 @@ pub use reading::read;
 use table::Table;
 pub use writing::write;
 
-// The kinds of record: the first byte of one is the number of its kind.
+// The kinds of record: the first byte of one is the number of its kind, which `as u8` gives.
 #[derive(Clone, Copy)]
 enum Kind {
     Head = 1,

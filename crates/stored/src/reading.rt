@@ -16,6 +16,7 @@ use crate::{
 use fields::{MOST_PROCESSES, NONE, SLOTS, UNBOUNDED};
 use table::{Core, Row, Table};
 
+// (`k as u8`: a place below sixteen.)
 fn cells_in(records: &Records) -> [i32; SLOTS]
     ensures { result ≡ filled (cell_in records.now.form.now records.now.process) slots none }
 {
@@ -50,7 +51,7 @@ fn row_in(records: &Records) -> Row
     }
 }
 
-// The fresh unbounded table for n = 1.
+// The fresh unbounded table for n = 1, which `table::fresh` builds.
 #[tactic(auto, unfolding(table::specs::Fresh::fresh_of))]
 fn fresh_table() -> Table
     ensures { result ≡ fresh_table unbounded 1 }
@@ -59,7 +60,7 @@ fn fresh_table() -> Table
 }
 
 // The table of a form that has no fault. Its rows above n stay as in a fresh table. (By an index: an iterator over a part of the rows tells a proof
-// nothing of the others, which stay.)
+// nothing of the others, which stay, and `array::from_fn` not that an element is what its closure answers.)
 fn table_in(form: &[u8]) -> Table
     requires few { count_in form.now ≤ slots }
     requires whole { length form.now ≡ form_length (count_in form.now) }

@@ -33,6 +33,8 @@ struct RowRules {
     i: u8,
 }
 
+// `cells_ok` here and `rows_ok` below are two lines alike, over the one law `every_listed`: the one is over the numbers of a row, the other over the
+// rows. What each asks at a place below sixteen is a function for that place, which fits a byte.
 impl RowRules {
     // The rule of the read cell at place k, that of process k + 1.
     #[tactic(auto, unfolding(crate::specs::WellFormed::cell_rule))]

@@ -72,7 +72,8 @@ impl ProcessCount {
         Some(ProcessCount { n })
     }
 
-    // The remainder by M = 2n - 1, mended to lie in 0 to M - 1: the processor's has the sign of the number. (A required form.)
+    // The remainder by M = 2n - 1, mended to lie in 0 to M - 1: the processor's has the sign of the number. (A required form; `as`
+    // narrows, and the check proves that nothing is lost.)
     fn remainder(self, number: i64) -> u8
         ensures { result ≡ remainder number (modulus_of self.n) }
     {
