@@ -1,6 +1,6 @@
 // Demand 3's words on two tables: "after every byte all rows agree in line, index and choosing flag; X and every token, pivot and read cell
 // of the bounded table is the unbounded one's remainder modulo 2n - 1, with -1 for -1; and at most one process stands at lines 8 to 10."
-ghost use Rattle.std.specs.Prelude.{◌≡◌, ◌+◌, ◌<◌};
+ghost use Rattle.std.specs.Prelude.{◌≡◌, ◌<◌};
 ghost use Rattle.fields.specs.Numbers.{modulus_of};
 ghost use Rattle.demands.specs.Agreement.{f, is_remainder, row_agrees, agree, at_most_one, meets};
 

@@ -1,5 +1,5 @@
 // A run: the steps of a schedule one after another, and what is counted of them.
-ghost use Rattle.std.specs.Prelude.{◌≡◌, true, cond, ◌+◌, ◌-◌, ◌<◌, ◌≤◌, eqb, length, set};
+ghost use Rattle.std.specs.Prelude.{◌≡◌, true, cond, ◌+◌, ◌<◌, ◌≤◌, eqb, length, set};
 ghost use Rattle.laws.specs.Lent.{in_front};
 ghost use Rattle.fields.specs.Numbers.{line_of_entry};
 ghost use Rattle.table.specs.WellFormed.{well_formed};

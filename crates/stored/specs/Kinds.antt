@@ -4,7 +4,7 @@ use Rattle.stored.specs.declared.Kind.{Kind}
 use Rattle.stored.specs.declared.Kind.TheVariants.{Head, Row, Cells}
 use Rattle.stored.specs.Form.{head_kind, row_kind, cells_kind}
 
-abbrev pub number_of : Kind → ℕ
-number_of Head = head_kind
-number_of Row = row_kind
-number_of Cells = cells_kind
+abbrev pub kind_number : Kind → ℕ
+kind_number Head = head_kind
+kind_number Row = row_kind
+kind_number Cells = cells_kind

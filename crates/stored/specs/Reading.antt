@@ -15,7 +15,7 @@ use Rattle.stored.specs.declared.Fault.TheVariants.{Token, Pivot, Cell}
 use Rattle.stored.specs.declared.Found.{Found}
 use Rattle.stored.specs.declared.Restored.{Restored}
 
--- The number of each fault. "a field that breaks its rule, or a process number out of order" is 12, whichever it is.
+-- The refusal of each fault. "a field that breaks its rule, or a process number out of order" is one refusal, whichever it is.
 unfoldable pub refusal_of : Fault → Stop
 refusal_of TooShort = form_too_short
 refusal_of TooLong = form_too_long

@@ -5,7 +5,7 @@ ghost use Rattle.laws.specs.InTurn.{in_turn};
 ghost use Rattle.fields.specs.Numbers.{slots};
 ghost use Rattle.stored.specs.Form.{head_length, form_length};
 ghost use Rattle.stored.specs.Fields.{count_in};
-ghost use Rattle.stored.specs.Kinds.{number_of};
+ghost use Rattle.stored.specs.Kinds.{kind_number};
 ghost use Rattle.stored.specs.Reading.{refusal_of, check, first_fault, start_checks, head_checks, length_checks, opening_checks, fields_checks};
 ghost use Rattle.stored.specs.Reading.{row_checks, cell_keeps, records_checks, checks_of};
 
@@ -99,7 +99,7 @@ fn check_length(form: &[u8]) -> Result<(), Found>
 #[tactic(auto, unfolding(crate::specs::Reading::first_fault, crate::specs::Reading::opening_checks))]
 fn check_opening(form: &[u8], kind: Kind, process: u8, at: usize) -> Result<(), Found>
     requires { at + 2 ≤ length form.now }
-    ensures { result ≡ first_fault (opening_checks form.now (number_of kind) process at) }
+    ensures { result ≡ first_fault (opening_checks form.now (kind_number kind) process at) }
 {
     check(form[at] == kind as u8, Fault::Kind, at)?;
     check(form[at + 1] == process, Fault::Process, at + 1)

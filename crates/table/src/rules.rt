@@ -1,5 +1,5 @@
 // When a table is well formed: the rules of the fields, over its rows and their read cells.
-ghost use Rattle.std.specs.Prelude.{◌≡◌, ◌+◌, ◌<◌, pos, get_or};
+ghost use Rattle.std.specs.Prelude.{◌≡◌, ◌+◌, ◌<◌};
 ghost use Rattle.fields.specs.Numbers.{slots};
 ghost use Rattle.table.specs.WellFormed.{cell_rule, cells_ok, core_ok, row_ok, row_rule, rows_ok, well_formed};
 
