@@ -1,9 +1,18 @@
 // What a data file holds, taken from it piece by piece. A table is there as plain fields and not in the stored form, so that one that is not
 // well formed can be a case.
+ghost use Rattle.std.specs.Prelude.{◌<◌, IfOk};
+
 use crate::lent::part;
 use std::io::{ErrorKind, Read, Write};
 use std::{array, io};
 use table::{Core, Row, Table};
+
+// The length that two bytes give, the lower one first.
+fn length_of(bytes: [u8; 2]) -> usize
+    ensures { result < 65536 }
+{
+    usize::from(u16::from_le_bytes(bytes))
+}
 
 // The cases of a data file, and the output for what the library answers to them. Where the file ends too soon the output says so, and what
 // is missing counts as zeros.
@@ -32,10 +41,12 @@ impl<R: Read, W: Write> Cases<'_, R, W> {
         Ok(piece[0])
     }
 
-    // A number of two bytes, the lower one first. Each byte is taken by itself, so that each one that is missing is said.
-    pub(crate) fn next_length(&mut self) -> io::Result<usize> {
+    // A number of two bytes. Each is taken by itself, so that each one that is missing is said.
+    pub(crate) fn next_length(&mut self) -> io::Result<usize>
+        ensures { IfOk result (λ length. length < 65536) }
+    {
         let bytes = array::try_from_fn(|_| self.next_byte())?;
-        Ok(usize::from(u16::from_le_bytes(bytes)))
+        Ok(length_of(bytes))
     }
 
     // A number of four bytes, the lowest one first. (One function over both lengths leaves open what `try_from_fn` asks of an unknown one.)

@@ -28,16 +28,22 @@ fn drawn(seed: u32) -> u32 {
     (u64::from(seed) * FACTOR % PRIME) as u32
 }
 
-// A process number, or a byte that is none: 0 or n + 1, which both machines refuse. (`as` narrows a remainder, here and above.)
+// One of 0 to n - 1. (`as` narrows a remainder, here and above.)
+fn one_of(count: ProcessCount, number: u32) -> u8
+    ensures { result < count.n }
+{
+    (number % u32::from(count.n)) as u8
+}
+
+// A process number, or a byte that is none: 0 or n + 1, which both machines refuse.
 fn byte_of(count: ProcessCount, number: u32) -> u8 {
-    let n = count.n;
     let rest = number / BURSTS_TO_ONE_REFUSED;
     if number % BURSTS_TO_ONE_REFUSED != 0 {
-        (rest % u32::from(n)) as u8 + 1
+        one_of(count, rest) + 1
     } else if rest % 2 == 0 {
         0
     } else {
-        n + 1
+        count.n + 1
     }
 }
 

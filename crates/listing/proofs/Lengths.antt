@@ -21,16 +21,16 @@ use Rattle.listing.specs.Room.{entry_room}
 use Rattle.listing.proofs.Decimals.{decimal_short}
 
 -- a word and a number of at most k digits
-numbered_short : (word : String) (n k : ℕ) → 1 ≤ k → n < 10 ^ k → n < 2 ^ 64 → length (numbered word n) ≤ length (ascii word) + k
+numbered_short : (word : String) (n k : ℕ) → 1 ≤ k → n < 10 ^ k → length (numbered word n) ≤ length (ascii word) + k
 unfolding numbered
-numbered_short word n k some h small = simp length-append (omega (arith, decimal_short k n some h small))
+numbered_short word n k some h = simp length-append (omega (arith, decimal_short k n some h))
 
 -- a byte has three digits at most, and a count that a machine word holds twenty
 byte_short : (word : String) (n : ℕ) → n < 256 → length (numbered word n) ≤ length (ascii word) + 3
-byte_short word n h = numbered_short word n 3 (omega arith) (omega arith) (omega arith)
+byte_short word n h = numbered_short word n 3 (omega arith) (omega arith)
 
 count_short : (word : String) (n : ℕ) → n < 2 ^ 64 → length (numbered word n) ≤ length (ascii word) + 20
-count_short word n h = numbered_short word n 20 (omega arith) (omega arith) h
+count_short word n h = numbered_short word n 20 (omega arith) (omega (arith, h))
 
 byte_line : (word : String) (n : ℕ) → n < 256 → length (numbered_line word n) ≤ length (ascii word) + 4
 unfolding numbered_line line_feed ascii

@@ -16,7 +16,7 @@ use Rattle.machine.specs.Lines.{Advanced, line2, line4, line_step, any_line, cel
 use Rattle.machine.specs.declared.Seen.{Seen}
 use Rattle.machine.specs.declared.Went.{Went}
 use Rattle.machine.proofs.ByLine.{at_line}
-use Rattle.machine.proofs.KeptBy.{kept_read, kept_cleared, kept_other}
+use Rattle.machine.proofs.KeptBy.{kept_read, kept_cleared, kept_refused, kept_other}
 use Rattle.machine.proofs.Marks.{advance_marked}
 use Rattle.machine.proofs.Only.{only_8_writes, only_4_refuses, only_6_and_7_wait}
 
@@ -89,6 +89,10 @@ module _ (algorithm n i : ℕ) (s : Seen) (r : Row) where
       pub gives_cells_up : w.mark ≡ 1 → advance_of algorithm n i s r ≡ leaves w all_none
       unfolding cells_after
       gives_cells_up moved = leaves_row at_4 (kept_cleared r.core.line w.mark _ _ _ e moved)
+
+      pub is_refused : (w.mark ≡ 1 → ⊥) → advance_of algorithm n i s r ≡ leaves w r.cells
+      unfolding cells_after
+      is_refused still = leaves_row at_4 (kept_refused r.core.line w.mark _ _ _ e still)
 
       pub takes_token : Ready n r.core → w.stop ≡ no_refusal
           → Takes (advance_of algorithm n i s r) (record { core = w.core; cells = all_none }) s.x 1

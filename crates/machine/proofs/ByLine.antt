@@ -1,6 +1,6 @@
 -- A step, line by line: at a line that is known it is that line's step, and what holds of each line's step holds of the step.
 use Prim.Native.Nat.{ℕ, suc, ◌≤◌}
-use mathlib.Core.Path.{◌≡◌, ap}
+use mathlib.Core.Path.{◌≡◌, refl, ap}
 use mathlib.Core.Bool.{cond}
 use native.Mathlib.Omega.{arith}
 use borrow.Author.Tests.{eqb-true, eqb-false}
@@ -58,3 +58,22 @@ by_line algorithm n i next s c P each =
     test k off f g =
         by_test P (eqb c.line (suc k)) (λ e. f (eqb-true c.line (suc k) e))
         (λ e. g (up_to_next (λ j. c.line ≡ j → ⊥) k off (eqb-false c.line (suc k) e)))
+
+-- a core at none of the lines waits
+pub at_no_line : (algorithm n i : ℕ) (next : ℤ) (s : Seen) (c : Core) → OffLines c 10
+    → any_line algorithm n i next s c ≡ waits s c
+at_no_line algorithm n i next s c off =
+    by_line algorithm n i next s c (λ (a : Went). a ≡ waits s c)
+    (record {
+      at1 = λ e. absurd (off 1 (omega arith) (omega arith) e);
+      at2 = λ e. absurd (off 2 (omega arith) (omega arith) e);
+      at3 = λ e. absurd (off 3 (omega arith) (omega arith) e);
+      at4 = λ e. absurd (off 4 (omega arith) (omega arith) e);
+      at5 = λ e. absurd (off 5 (omega arith) (omega arith) e);
+      at6 = λ e. absurd (off 6 (omega arith) (omega arith) e);
+      at7 = λ e. absurd (off 7 (omega arith) (omega arith) e);
+      at8 = λ e. absurd (off 8 (omega arith) (omega arith) e);
+      at9 = λ e. absurd (off 9 (omega arith) (omega arith) e);
+      at10 = λ e. absurd (off 10 (omega arith) (omega arith) e);
+      elsewhere = λ _. refl;
+    })

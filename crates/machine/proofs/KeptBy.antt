@@ -15,7 +15,10 @@ module _ {A : Type 0} (line mark : ℕ) (read cleared kept : A) where
   pub kept_cleared : line ≡ 4 → mark ≡ 1 → kept_by line mark read cleared kept ≡ cleared
   kept_cleared e h = rw (e, h)
 
-  -- and every other line keeps what there was, as does every step at another line than 2 that does not move
+  -- and keeps what there was where it is refused; so does every other line, and every step at another line than 2 that does not move
+  pub kept_refused : line ≡ 4 → (mark ≡ 1 → ⊥) → kept_by line mark read cleared kept ≡ kept
+  kept_refused e h = rw (e, ne_eqb mark 1 h)
+
   pub kept_other : (line ≡ 2 → ⊥) → (line ≡ 4 → ⊥) → kept_by line mark read cleared kept ≡ kept
   kept_other e h = by_answer (eqb mark 1) (λ m. rw (ne_eqb line 2 e, ne_eqb line 4 h, m)) (λ m. rw (ne_eqb line 2 e, ne_eqb line 4 h, m))
 

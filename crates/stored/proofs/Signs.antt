@@ -1,4 +1,4 @@
--- The bits of a signed number, and the number of some bits, as code finds them by `!`: of one below 0, how far it is from -1.
+-- The bits of a signed number, and the number of some bits: of one below 0, how far it is from -1.
 use Prim.Native.Nat.{ℕ, suc, ◌-◌, ◌<◌, ◌^◌}
 use mathlib.Core.Path.{◌≡◌}
 use native.Mathlib.Omega.{arith}

@@ -95,12 +95,12 @@ fn refused(found: Found) -> Restored
 pub fn read(form: &[u8]) -> Restored
     ensures { result ≡ read_of form.now }
 {
-    match check_form(form) {
-        Ok(()) => Restored {
-            table: table_in(form),
-            stop: None,
-            place: form.len(),
-        },
-        Err(found) => refused(found),
+    if let Err(found) = check_form(form) {
+        return refused(found);
+    }
+    Restored {
+        table: table_in(form),
+        stop: None,
+        place: form.len(),
     }
 }

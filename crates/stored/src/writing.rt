@@ -21,7 +21,7 @@ fn head_record(t: Table) -> [u8; HEAD_LENGTH]
     record[0] = Kind::Head as u8;
     record[ALGORITHM_PLACE] = t.algorithm;
     record[COUNT_PLACE] = t.n;
-    record[X_PLACE..].copy_from_slice(&t.x.to_le_bytes());
+    record[X_PLACE..].copy_from_slice(&table::x_of(t).0.to_le_bytes());
     record
 }
 

@@ -6,7 +6,7 @@ ghost use Rattle.fields.specs.Rules.{count_ok};
 ghost use Rattle.tokens.specs.Count.{Count};
 ghost use Rattle.tokens.specs.Tokens.{remainder, largest, shifted, shifted_cell, next_b, before_ub, before_b};
 
-use fields::{NONE, SLOTS, TOKEN_LIMIT};
+use fields::{NONE, SLOTS, TOKEN_LIMIT, Value};
 
 // A token of UB-Bakery, and a token of B-Bakery, which is one modulo 2n - 1. Source 002 takes the one to the other by its mapping f; here
 // no function takes one of each. (Two types are a required form.)
@@ -35,12 +35,14 @@ impl UbToken {
         Some(UbToken(1 + self.0))
     }
 
-    // Whether process i, which holds this token, goes before process j.
+    // Whether process i, which holds this token, goes before process j. (By the calls of `Value`, which are public for this.)
     #[tactic(auto, using(std::proofs::lemmas::Int::ints), unfolding(crate::specs::Tokens::before_ub))]
     pub(crate) fn goes_before(self, i: u8, other: UbToken, j: u8) -> bool
         ensures { result ≡ before_ub i self.0 j other.0 }
     {
-        (self.0, i) < (other.0, j)
+        let own = Value(self.0);
+        let its = Value(other.0);
+        own.is_below(its) || own.equals(its) && i < j
     }
 }
 
@@ -120,7 +122,7 @@ impl Shift {
     {
         let sum = i64::from(most) + i64::from(self.pivot.0);
         let next = self.count.remainder(sum - i64::from(self.count.n) + 2);
-        BToken(i32::from(next))
+        BToken(Value::of_number(u16::from(next)).0)
     }
 
     // The next token: (m + p - n + 2) mod M, where m is the largest of the shifted pivot and the shifted read cells.

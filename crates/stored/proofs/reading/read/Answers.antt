@@ -9,13 +9,13 @@ pub table_in-requires : goal.table_in-requires
 unfolding table_in
 table_in-requires c =
     let s = c.args.form.now in
-    let none = sym c.in-Ok.ensures in
+    let none = sym c.check_form.ensures ∙ c.in_default.is in
     record { few = (accepted_rules s none).most; whole = (accepted_framed s none).long }
 
-pub returns-in-Ok : goal.returns-in-Ok
+pub returns : goal.returns
 unfolding read_of answer_to
-returns-in-Ok c = rw (c.table_in.ensures, ← c.in-Ok.ensures)
+returns c = rw (c.table_in.ensures, ← c.check_form.ensures, c.in_default.is)
 
 pub returns-in-Err : goal.returns-in-Err
 unfolding read_of answer_to
-returns-in-Err c = c.refused.ensures ∙ rw (← c.in-Err.ensures)
+returns-in-Err c = c.refused.ensures ∙ rw (← c.check_form.ensures, c.in-Err.is)
