@@ -13,6 +13,7 @@ use crate::{
 use fields::Refusal;
 use table::{Core, Row, Table};
 
+// (X by `x_of`, which is public because this crate calls it.)
 #[tactic(auto, using(crate::proofs::Numbers::library_bytes), unfolding(crate::specs::Form::head_record, crate::specs::FourBytes::four_bytes, crate::specs::FourBytes::four_digits))]
 fn head_record(t: Table) -> [u8; HEAD_LENGTH]
     ensures { result ≡ head_record t }

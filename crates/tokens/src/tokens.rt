@@ -35,7 +35,8 @@ impl UbToken {
         Some(UbToken(1 + self.0))
     }
 
-    // Whether process i, which holds this token, goes before process j. (By the calls of `Value`, which are public for this.)
+    // Whether process i, which holds this token, goes before process j. (By the comparisons of `Value`, which are public because this
+    // crate calls them.)
     #[tactic(auto, using(std::proofs::lemmas::Int::ints), unfolding(crate::specs::Tokens::before_ub))]
     pub(crate) fn goes_before(self, i: u8, other: UbToken, j: u8) -> bool
         ensures { result ≡ before_ub i self.0 j other.0 }
@@ -116,7 +117,7 @@ impl Shift {
         self.shifted(BToken(cell))
     }
 
-    // (m + p - n + 2) mod M
+    // (m + p - n + 2) mod M. (By `of_number`, which is public because this crate calls it.)
     fn unshifted(self, most: i32) -> BToken
         ensures { result.0 ≡ pos (remainder (most +ℤ self.pivot.0 -ℤ pos self.count.n +ℤ pos 2) (modulus_of self.count.n)) }
     {
